@@ -1,0 +1,12 @@
+//! Rows of records: what a column keeps, how a row is made and edited, and the bytes it is kept as.
+#![tactic(auto)]
+
+pub mod datum;
+pub mod id;
+pub mod marks;
+pub mod raw;
+
+pub use datum::{Datum, OpField, sanitise};
+pub use id::{Id, IdFault};
+pub use marks::Marks;
+pub use raw::{Raw, Status};
