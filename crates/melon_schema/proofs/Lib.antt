@@ -1,2 +1,4 @@
 pub mod Each
 pub mod Named
+pub mod TidyBack
+pub mod Utf8

@@ -1,5 +1,5 @@
 -- What a schema's fields stand for.
-use Rattle.std.specs.Prelude.{◌≡◌, ℕ, List, map, String, string_bytes}
+use Rattle.std.specs.Prelude.{◌≡◌, map, string_bytes}
 use Rattle.std.specs.List.{AllByRecursion}
 use Rattle.melon_schema.specs.declared.app_schema.AppSchema.TheInside.{Inside}
 use Rattle.melon_schema.specs.Seen.{SeenSchema}

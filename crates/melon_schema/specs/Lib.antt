@@ -1,7 +1,13 @@
-pub mod Seen
+pub mod Bytes
+pub mod Faults
 pub mod Inside
 pub mod Json
 pub mod Lent
 pub mod Names
 pub mod Places
 pub mod Refusals
+pub mod Schema
+pub mod SchemaForm
+pub mod Seen
+pub mod Sound
+pub mod Tidy

@@ -1,8 +1,12 @@
-ghost use Rattle.std.specs.Prelude.{◌≡◌, ◌<◌, length, slice_get, Some};
-ghost use Rattle.melon_schema.specs.Places.{table_named};
+ghost use Rattle.std.specs.Prelude.{◌≡◌, ◌∷◌, ◌++◌, ◌<◌, [], length, slice_get, Some, None, OnOk};
+ghost use Rattle.std.specs.Option.{option_copied};
+ghost use Rattle.melon_schema.specs.Schema.{are_associations};
+ghost use Rattle.melon_schema.specs.Places.{table_named, declared_table};
 
 use crate::TableSchema;
+use crate::schema_reader::are_own_associations;
 use indexmap::IndexMap;
+use std::alloc::{AllocError, Global};
 use std::marker::Model;
 
 /// The tables that an app declares, each found by its name, and the version of their declaration.
@@ -24,6 +28,26 @@ impl Model for AppSchema {
 }
 
 impl AppSchema {
+    /// The schema that declares no table yet.
+    pub(crate) fn empty(alloc: Global, version: u64) -> AppSchema
+        ensures { result ≡ record { version = version; tables = [] } }
+    {
+        AppSchema {
+            version,
+            tables: IndexMap::new(alloc),
+        }
+    }
+
+    /// Declares a table with a new name after the others.
+    pub(crate) fn push(&mut self, alloc: Global, table: TableSchema) -> Result<(), AllocError>
+        requires { table_named table.name self.old.tables ≡ None }
+        ensures { OnOk result (self.new ≡ record { version = self.old.version; tables = self.old.tables ++ table ∷ [] }) }
+    {
+        let name = String::from_str(alloc, table.name.as_str())?;
+        self.tables.insert(name, table)?;
+        Ok(())
+    }
+
     pub fn version(&self) -> u64
         ensures { result ≡ self.now.version }
     {
@@ -44,6 +68,13 @@ impl AppSchema {
         self.tables.get_index_of(name)
     }
 
+    /// The table of that name.
+    pub fn named(&self, name: &str) -> Option<&TableSchema>
+        ensures { option_copied result ≡ declared_table name.now self.now.tables }
+    {
+        self.tables.get(name)
+    }
+
     /// The table at a place.
     pub fn at(&self, table: usize) -> &TableSchema
         requires { table < length self.now.tables }
@@ -53,5 +84,14 @@ impl AppSchema {
             Some((_, found)) => found,
             None => unreachable!(),
         }
+    }
+
+    /// Whether each association of each table leads to a declared table by a text column.
+    pub(crate) fn are_associations(&self) -> bool
+        ensures { result ≡ are_associations self.now.tables }
+    {
+        self.tables
+            .values()
+            .all(|own| are_own_associations(self, own))
     }
 }

@@ -1,0 +1,13 @@
+-- Tables as a schema declares them.
+use Rattle.std.specs.Prelude.{◌≡◌, List, Bool, true, not, ◌&&◌}
+use Rattle.std.specs.List.{list_all}
+use Rattle.melon_schema.specs.Names.{is_name, is_reserved_column, are_distinct}
+use Rattle.melon_schema.specs.declared.schema.ColumnSchema.{ColumnSchema}
+
+abbrev pub is_well_named : ColumnSchema → Bool
+is_well_named column = is_name column.name && not (is_reserved_column column.name)
+
+-- The columns have names after the rule for names, none of them reserved and none twice.
+pub record AreSound (columns : List ColumnSchema) : Type 0 where
+  pub named : list_all is_well_named columns ≡ true
+  pub distinct : are_distinct (λ c. c.name) columns ≡ true
