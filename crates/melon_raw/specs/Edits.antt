@@ -1,5 +1,5 @@
 -- How the row of a record is made and changed by its own app.
-use Rattle.std.specs.Prelude.{ℕ, ◌==◌, List, [], ◌∷◌, ◌+◌, ◌++◌, find, set, Bool, Option, Some, None, if◌then◌else◌}
+use Rattle.std.specs.Prelude.{ℕ, ◌==◌, List, [], ◌∷◌, ◌+◌, ◌++◌, find, set, Option, Some, None, if◌then◌else◌}
 use Rattle.melon_schema.specs.declared.schema.ColumnSchema.{ColumnSchema}
 use Rattle.melon_raw.specs.declared.datum.Datum.{Datum}
 use Rattle.melon_raw.specs.declared.datum.Datum.TheVariants.{Null}

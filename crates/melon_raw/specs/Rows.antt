@@ -1,5 +1,5 @@
 -- Rows, when they fit their table, and rows by id.
-use Rattle.std.specs.Prelude.{◌≡◌, ℕ, ◌==◌, List, [], ◌∷◌, ◌++◌, length, get_or, filter, find, Bool, true, false, not, ◌&&◌, nat_lt, Option, Some, None, bytes_eq}
+use Rattle.std.specs.Prelude.{◌≡◌, ℕ, ◌==◌, List, [], ◌∷◌, ◌++◌, length, get_or, filter, find, Bool, true, false, not, ◌&&◌, nat_lt, Option, bytes_eq}
 use Rattle.std.specs.List.{list_any, list_all}
 use Rattle.melon_schema.specs.Names.{is_id}
 use Rattle.melon_schema.specs.declared.schema.Kind.TheVariants as kinds

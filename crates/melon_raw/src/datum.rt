@@ -1,7 +1,7 @@
 ghost use Rattle.std.specs.Prelude.{◌≡◌, IfOk, ◌<◌, length};
 ghost use Rattle.serde_json.specs.View.{view};
 ghost use Rattle.melon_schema.specs.Refusals.{Answers};
-ghost use Rattle.melon_raw.specs.Datum.{in_profile, datum_of, otherwise, kept, fit};
+ghost use Rattle.melon_raw.specs.Datum.{in_profile, datum_of, otherwise, kept, fit, datum_eq};
 
 use melon_schema::reader::FromMember;
 use melon_schema::{ColumnSchema, Kind, Refusal, Text, Twin};
@@ -48,6 +48,34 @@ impl Twin for Datum {
             (Datum::Truth(ours), Datum::Truth(theirs)) => *ours == *theirs,
             _ => false,
         }
+    }
+}
+
+impl Datum {
+    /// Whether it is the same value; null is null alone.
+    pub fn is(&self, other: &Datum) -> bool
+        ensures { result ≡ datum_eq self.now other.now }
+    {
+        match (self, other) {
+            (Datum::Null, Datum::Null) => true,
+            (Datum::Words(ours), Datum::Words(theirs)) => ours.is(theirs.as_str()),
+            (Datum::Whole(ours), Datum::Whole(theirs)) => *ours == *theirs,
+            (Datum::Truth(ours), Datum::Truth(theirs)) => *ours == *theirs,
+            _ => false,
+        }
+    }
+}
+
+impl Twin for OpField {
+    fn copy(&self, alloc: Global) -> Result<OpField, AllocError> {
+        Ok(OpField {
+            column: self.column.copy(alloc)?,
+            value: self.value.copy(alloc)?,
+        })
+    }
+
+    fn same(&self, other: &OpField) -> bool {
+        self.column.same(&other.column) && self.value.same(&other.value)
     }
 }
 

@@ -2,11 +2,16 @@
 #![tactic(auto)]
 
 pub mod datum;
+mod decoding;
+pub mod encoding;
 pub mod id;
 pub mod marks;
 pub mod raw;
+pub mod steps;
+mod tests;
 
 pub use datum::{Datum, OpField, sanitise};
 pub use id::{Id, IdFault};
 pub use marks::Marks;
 pub use raw::{Raw, Status};
+pub use steps::Steps;

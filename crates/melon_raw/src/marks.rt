@@ -1,5 +1,6 @@
 ghost use Rattle.std.specs.Prelude.{◌≡◌, [], ◌∷◌, ◌++◌, OnOk, OnErr};
 ghost use Rattle.melon_raw.specs.Rows.{has};
+ghost use Rattle.melon_raw.specs.Edits.{marked};
 
 use melon_schema::{List, Twin};
 use std::alloc::{AllocError, Global};
@@ -48,6 +49,17 @@ impl Marks {
         ensures err { OnErr result (self.new ≡ self.old) }
     {
         self.places.push(column)
+    }
+
+    /// Marks a column, once.
+    pub fn mark(&mut self, column: usize) -> Result<(), AllocError>
+        ensures ok { OnOk result (self.new ≡ marked column self.old) }
+        ensures err { OnErr result (self.new ≡ self.old) }
+    {
+        if self.has(column) {
+            return Ok(());
+        }
+        self.push(column)
     }
 }
 
