@@ -1,0 +1,6 @@
+pub mod Order
+pub mod Halving
+pub mod Places
+pub mod ById
+pub mod Placed
+pub mod Empty

@@ -1,0 +1,6 @@
+pub mod Dirty
+pub mod Seen
+pub mod Inside
+pub mod Kept
+pub mod Lent
+pub mod Places
