@@ -1,0 +1,12 @@
+pub mod CellsWith
+pub mod ByName
+pub mod Naming
+pub mod Founded
+pub mod Batches
+pub mod Someness
+pub mod Same
+pub mod After
+pub mod Carry
+pub mod Places
+pub mod Legal
+pub mod Examples

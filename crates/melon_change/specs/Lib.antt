@@ -1,0 +1,9 @@
+pub mod Forms
+pub mod Rules
+pub mod Edited
+pub mod Batch
+pub mod Changes
+pub mod History
+pub mod Legality
+pub mod Marks
+pub mod Named

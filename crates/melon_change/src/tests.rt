@@ -1,0 +1,122 @@
+//! That operations are read and prepared with ample memory, as worked rows.
+ghost use Rattle.std.specs.Prelude.{◌≡◌};
+ghost use Rattle.melon_table.specs.Seen.{columns_of, declared_columns};
+
+#[cfg(test)]
+mod tests {
+    use crate::{BatchFault, Change, OpsFault, Told, prepare, read_ops};
+    use melon_schema::AppSchema;
+    use melon_schema::reader::json_of;
+    use melon_table::Tables;
+    use std::alloc::Global;
+    use std::test::Fail;
+
+    const POSTS: &str =
+        r#"{"version":1,"tables":[{"name":"posts","columns":[{"name":"title","type":"string"},{"name":"score","type":"number","isOptional":true}]}]}"#;
+
+    /// What the operations are read as: how many, or the fault.
+    fn read(alloc: Global, text: &str) -> Result<(u64, u64), Fail> {
+        let json = json_of(alloc, text.as_bytes())?;
+        Ok(match read_ops(alloc, &json) {
+            Ok(ops) => (0, ops.len() as u64),
+            Err(OpsFault::Form { op }) => (1, op),
+            Err(OpsFault::Number { op }) => (2, op),
+            Err(OpsFault::Memory) => (3, 0),
+        })
+    }
+
+    #[test]
+    fn reads_operations(rt: HostRuntime) -> Result<(), Fail> {
+        for (text, want) in [
+            (r#"[]"#, (0, 0)),
+            (
+                r#"[{"create":"posts","id":"p1","set":{"title":"a","score":null}},{"update":"posts","id":"p1","set":{}},{"delete":"posts","id":"p1"},{"destroy":"posts","id":"p1"}]"#,
+                (0, 4),
+            ),
+            (r#"{}"#, (1, 0)),
+            (r#"[{"create":"posts","id":"p1"}]"#, (1, 1)),
+            (r#"[{"delete":"posts","id":"p1","set":{}}]"#, (1, 1)),
+            (
+                r#"[{"update":"posts","id":"p1","set":{"title":[]}}]"#,
+                (1, 1),
+            ),
+            (
+                r#"[{"create":"posts","id":"p1","set":{"score":1.5}},{"create":"posts","id":1,"set":{}}]"#,
+                (1, 2),
+            ),
+            (
+                r#"[{"delete":"posts","id":"p1"},{"create":"posts","id":"p1","set":{"score":9007199254740992}}]"#,
+                (2, 2),
+            ),
+        ] {
+            assert_eq!(rt; read(rt.alloc(), text)?, want, "at {text}");
+        }
+        Ok(())
+    }
+
+    /// The number of the fault and of its operation.
+    fn number_of(fault: &BatchFault) -> (u64, u64) {
+        match fault {
+            BatchFault::UnknownTable { op, .. } => (1, *op),
+            BatchFault::UnknownColumn { op, .. } => (2, *op),
+            BatchFault::BadId { op, .. } => (3, *op),
+            BatchFault::Twice { op, .. } => (4, *op),
+            BatchFault::Taken { op, .. } => (5, *op),
+            BatchFault::NoRow { op, .. } => (6, *op),
+            BatchFault::LongText { op, .. } => (7, *op),
+            BatchFault::TooMany { count } => (8, *count),
+            BatchFault::Memory => (9, 0),
+        }
+    }
+
+    /// How many of the changes are told as created.
+    fn shown(changes: &[Change]) -> u64 {
+        changes
+            .iter()
+            .filter(|change| change.told() == Told::Created)
+            .count() as u64
+    }
+
+    /// How many records the batch makes, or its fault.
+    fn prepared(
+        alloc: Global,
+        schema: &AppSchema,
+        tables: &Tables,
+        text: &str,
+    ) -> Result<(u64, u64), Fail>
+        requires { columns_of tables.now ≡ declared_columns schema.now.tables }
+    {
+        let json = json_of(alloc, text.as_bytes())?;
+        let ops = read_ops(alloc, &json)?;
+        match prepare(alloc, tables, schema, ops) {
+            Ok(set) => Ok((0, shown(set.as_slice()))),
+            Err(fault) => Ok(number_of(&fault)),
+        }
+    }
+
+    #[test]
+    fn prepares_batches(rt: HostRuntime) -> Result<(), Fail> {
+        let alloc = rt.alloc();
+        let json = json_of(alloc, POSTS.as_bytes())?;
+        let schema = AppSchema::read(alloc, &json).map_err(|fault| fault.number())?;
+        let tables = Tables::new(alloc, &schema)?;
+        for (text, want) in [
+            (r#"[]"#, (0, 0)),
+            (
+                r#"[{"create":"posts","id":"p2","set":{}},{"create":"posts","id":"p1","set":{"title":"b"}}]"#,
+                (0, 2),
+            ),
+            (r#"[{"create":"notes","id":"?","set":{}}]"#, (1, 1)),
+            (r#"[{"create":"posts","id":"?","set":{"likes":1}}]"#, (2, 1)),
+            (r#"[{"create":"posts","id":"?","set":{}}]"#, (3, 1)),
+            (
+                r#"[{"create":"posts","id":"p1","set":{}},{"create":"posts","id":"p2","set":{}},{"update":"posts","id":"p1","set":{}}]"#,
+                (4, 3),
+            ),
+            (r#"[{"destroy":"posts","id":"p1"}]"#, (6, 1)),
+        ] {
+            assert_eq!(rt; prepared(alloc, &schema, &tables, text)?, want, "at {text}");
+        }
+        Ok(())
+    }
+}
