@@ -1,0 +1,11 @@
+pub mod Examples
+pub mod Forms
+pub mod Founds
+pub mod Nodes
+pub mod Ons
+pub mod Readings
+pub mod Rooms
+pub mod SoundQueries
+pub mod SoundReadings
+pub mod SoundSteps
+pub mod Sounds

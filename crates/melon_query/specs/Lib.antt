@@ -1,0 +1,16 @@
+pub mod Counting
+pub mod Fresh
+pub mod Kinds
+pub mod Like
+pub mod Limits
+pub mod Meaning
+pub mod Numbers
+pub mod Order
+pub mod QueryForm
+pub mod Reading
+pub mod Setting
+pub mod Simple
+pub mod Sound
+pub mod Truth
+pub mod Tuples
+pub mod Values

@@ -1,0 +1,17 @@
+//! Queries: how they are read from JSON, and what they mean.
+#![tactic(auto)]
+
+mod cond_form;
+mod limits;
+mod query;
+mod query_fault;
+mod query_form;
+mod query_reader;
+mod resolve;
+mod simple;
+mod tests;
+
+pub use cond_form::{CompareForm, CondForm, RightForm};
+pub use query::{Col, Compare, CompareOp, Cond, Join, Joined, Query, Right, SortKey};
+pub use query_fault::QueryFault;
+pub use query_form::{QueryForm, SortForm};
