@@ -1,0 +1,7 @@
+//! Scripts and what they print, as tables of tests over the top calls.
+#![tactic(auto)]
+
+#[cfg(test)]
+mod runs;
+#[cfg(test)]
+mod trial;
