@@ -48,6 +48,14 @@ mod tests {
                 r#"[{"delete":"posts","id":"p1"},{"create":"posts","id":"p1","set":{"score":9007199254740992}}]"#,
                 (2, 2),
             ),
+            (
+                r#"[{"create":"posts","id":"p1","set":{"score":9007199254740991}}]"#,
+                (0, 1),
+            ),
+            (
+                r#"[{"create":"posts","id":"p2","set":{"score":9007199254740992}}]"#,
+                (2, 1),
+            ),
         ] {
             assert_eq!(rt; read(rt.alloc(), text)?, want, "at {text}");
         }
@@ -92,6 +100,37 @@ mod tests {
             Ok(set) => Ok((0, shown(set.as_slice()))),
             Err(fault) => Ok(number_of(&fault)),
         }
+    }
+
+    /// Whether the batch is refused since its second operation names the post p9, which has no row.
+    fn misses_p9(
+        alloc: Global,
+        schema: &AppSchema,
+        tables: &Tables,
+        text: &str,
+    ) -> Result<bool, Fail>
+        requires { columns_of tables.now ≡ declared_columns schema.now.tables }
+    {
+        let json = json_of(alloc, text.as_bytes())?;
+        let ops = read_ops(alloc, &json)?;
+        match prepare(alloc, tables, schema, ops) {
+            Err(BatchFault::NoRow { op, table, id }) => {
+                Ok(op == 2 && table.is("posts") && id.is("p9"))
+            }
+            _ => Ok(false),
+        }
+    }
+
+    #[test]
+    fn tells_the_record_without_a_row(rt: HostRuntime) -> Result<(), Fail> {
+        let alloc = rt.alloc();
+        let json = json_of(alloc, POSTS.as_bytes())?;
+        let schema = AppSchema::read(alloc, &json).map_err(|fault| fault.number())?;
+        let tables = Tables::new(alloc, &schema)?;
+        let text =
+            r#"[{"create":"posts","id":"p1","set":{}},{"update":"posts","id":"p9","set":{"title":"a"}}]"#;
+        assert!(rt; misses_p9(alloc, &schema, &tables, text)?);
+        Ok(())
     }
 
     #[test]

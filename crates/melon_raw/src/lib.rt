@@ -11,6 +11,7 @@ pub mod steps;
 mod tests;
 
 pub use datum::{Datum, OpField, sanitise};
+pub use decoding::encoding_is_unique;
 pub use id::{Id, IdFault};
 pub use marks::Marks;
 pub use raw::{Raw, Status};
