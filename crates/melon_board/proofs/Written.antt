@@ -1,0 +1,48 @@
+-- How the answers of a write follow from its plan.
+use Rattle.std.proofs.Common.{◌≡◌, ℕ, List, Option, Some, None, Result, Ok, Err, refl, ap, sym, subst, ◌∙◌}
+use Rattle.melon_schema.specs.Faults.{◌>>=◌, Fails}
+use Rattle.melon_raw.specs.Rows.{Rows}
+use Rattle.melon_outside.specs.declared.kept.KeptBatch.{KeptBatch}
+use Rattle.melon_change.specs.declared.change.Change.{Change}
+use Rattle.melon_change.specs.declared.op.Op.{Op}
+use Rattle.melon_change.specs.declared.rule.BatchFault.{BatchFault}
+use Rattle.melon_change.specs.declared.rule.BatchFault.TheVariants as batch
+use Rattle.melon_change.specs.declared.history.Origin.TheVariants.{Local}
+use Rattle.melon_change.specs.Batch.{batch_of}
+use Rattle.melon_board.specs.declared.fault.WriteFault.{WriteFault}
+use Rattle.melon_board.specs.declared.fault.WriteFault.TheVariants.{Batch, StoreFull, SessionFull, KeeperFault, Memory}
+use Rattle.melon_board.specs.Faults.{fault_of_batch}
+use Rattle.melon_board.specs.Stores.{SeenStore}
+use Rattle.melon_board.specs.Plans.{Plan, as_batch, install_plan, write_plan, asked}
+use Rattle.melon_board.specs.Carried.{IsAsked, IsOfKeeper, IsWritten}
+
+-- a fault of the keeper, or want of memory, leaves the store
+pub kept_fault : (plan : Result Plan WriteFault) (was now : SeenStore) (f : WriteFault) → IsOfKeeper f → IsAsked plan → now ≡ was → IsWritten plan was now (Err f)
+kept_fault plan was now (Batch b) of_keeper is_asked same = absurd of_keeper
+kept_fault plan was now (StoreFull n) of_keeper is_asked same = absurd of_keeper
+kept_fault plan was now (SessionFull n) of_keeper is_asked same = absurd of_keeper
+kept_fault plan was now KeeperFault of_keeper is_asked same = (is_asked, same)
+kept_fault plan was now Memory of_keeper is_asked same = same
+
+pub is_asked : (plan : Result Plan WriteFault) (b : KeptBatch) (after : SeenStore) → plan ≡ Ok (record { batch = Some b; after = after }) → IsAsked plan
+is_asked plan b after e = (b, ap (λ (p : Result Plan WriteFault). asked p) e)
+
+module _ (store : SeenStore) (ops : List Op) where
+  broken : (f : BatchFault) → batch_of store.schema.tables store.rows ops ≡ Err f → write_plan store ops ≡ Err (Batch f)
+  broken f e = ap (λ (r : Result (List Change) BatchFault). as_batch r >>= install_plan store Local) e
+
+  -- a broken rule, or want of memory
+  pub unwritten : (f : BatchFault) → Fails batch.Memory f (batch_of store.schema.tables store.rows ops) → IsWritten (write_plan store ops) store store (Err (fault_of_batch f))
+  unwritten (batch.UnknownTable op table id) h = (broken (batch.UnknownTable op table id) (h (λ e. cc)), refl)
+  unwritten (batch.UnknownColumn op table id column) h = (broken (batch.UnknownColumn op table id column) (h (λ e. cc)), refl)
+  unwritten (batch.BadId op table id) h = (broken (batch.BadId op table id) (h (λ e. cc)), refl)
+  unwritten (batch.Twice op table id) h = (broken (batch.Twice op table id) (h (λ e. cc)), refl)
+  unwritten (batch.Taken op table id) h = (broken (batch.Taken op table id) (h (λ e. cc)), refl)
+  unwritten (batch.NoRow op table id) h = (broken (batch.NoRow op table id) (h (λ e. cc)), refl)
+  unwritten (batch.LongText op table id column) h = (broken (batch.LongText op table id column) (h (λ e. cc)), refl)
+  unwritten (batch.TooMany count) h = (broken (batch.TooMany count) (h (λ e. cc)), refl)
+  unwritten batch.Memory h = refl
+
+  -- a batch is installed
+  pub write_plan-is : (set : List Change) → batch_of store.schema.tables store.rows ops ≡ Ok set → write_plan store ops ≡ install_plan store Local set
+  write_plan-is set e = ap (λ (r : Result (List Change) BatchFault). as_batch r >>= install_plan store Local) e

@@ -1,0 +1,13 @@
+pub mod Sizes
+pub mod Boards
+pub mod Stores
+pub mod Faults
+pub mod Batches
+pub mod Plans
+pub mod Opening
+pub mod Opened
+pub mod Carried
+pub mod Keeps
+pub mod Lasting
+pub mod Drafts
+pub mod Inside
