@@ -1,0 +1,11 @@
+pub mod Asking
+pub mod Chosen
+pub mod Offers
+pub mod Pieces
+pub mod Seen
+pub mod Parts
+pub mod Trials
+pub mod Grouped
+pub mod Sources
+pub mod Planned
+pub mod Pages
