@@ -1,0 +1,6 @@
+pub mod Followed
+pub mod Grown
+pub mod Simulated
+pub mod Ran
+pub mod Names
+pub mod Lasting

@@ -1,0 +1,5 @@
+use Rattle.melon_machine.proofs.Lasting.{runs_are_sound}
+use Rattle.melon_machine.proofs.laws.runs_are_sound.Goals as goal
+
+pub returns : goal.returns
+returns c = runs_are_sound

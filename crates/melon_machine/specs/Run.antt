@@ -1,0 +1,47 @@
+-- The run of a whole script: the forms of its lines stepped in order, over what is kept, with an outcome for each call of the keeper.
+use Rattle.std.specs.Prelude.{◌≡◌, ℕ, List, [], ◌∷◌, ◌++◌, Bool, Option, Some, None, if◌then◌else◌}
+use Rattle.melon_outside.specs.Keeping.{Stores}
+use Rattle.melon_script.specs.SeenLine.{SeenLine}
+use Rattle.melon_script.specs.Forms.{line_of, is_blank}
+use Rattle.melon_script.specs.Script.{forms_in}
+use Rattle.melon_script.specs.Printed.{answer_text}
+use Rattle.melon_machine.specs.Calls.{Calls, Done, Followed, follow}
+use Rattle.melon_machine.specs.State.{App, Kind, State, with_history, none_open}
+use Rattle.melon_machine.specs.Step.{Stepped, ends_with, step}
+
+-- what the form of a line does; none does nothing
+abbrev pub by_form : {A : Type 0} → Kind A → State A → Option SeenLine → Calls (Stepped A)
+by_form kind m None = Done (ends_with m [])
+by_form kind m (Some line) = step kind m line
+
+-- what a line of bytes does
+abbrev pub line_calls : {A : Type 0} → Kind A → State A → List ℕ → Calls (Stepped A)
+line_calls kind m bytes = if is_blank bytes then Done (ends_with m []) else by_form kind m (line_of bytes)
+
+-- what was printed, the state and what is kept at the end, and the outcomes that are left
+pub record Ran : Type 0 where
+  pub text : List ℕ
+  pub after : State App
+  pub kept : Stores
+  pub left : List Bool
+
+-- a text before
+abbrev pub prints_first : List ℕ → Ran → Ran
+prints_first text later = record { text = text ++ later.text; after = later.after; kept = later.kept; left = later.left }
+
+-- what a step printed, and then the lines after it
+abbrev pub goes_on : Followed (Stepped App) → (State App → Stores → List Bool → Ran) → Ran
+goes_on done later = prints_first (answer_text done.value.items) (later done.value.after done.kept done.left)
+
+-- the lines of these forms, from this state on
+abbrev pub run_from : State App → Stores → List SeenLine → List Bool → Ran
+run_from m kept [] outcomes = record { text = []; after = m; kept = kept; left = outcomes }
+run_from m kept (line ∷ more) outcomes = goes_on (follow (step with_history m line) kept outcomes) (λ next now left. run_from next now more left)
+
+-- The run of a script by a machine without open apps.
+unfoldable pub run : List ℕ → Stores → List Bool → Ran
+run script kept outcomes = run_from none_open kept (forms_in script) outcomes
+
+-- Whatever comes after these outcomes, the run prints this text and then goes on from this state with these lines.
+pub record ComesTo (script : List ℕ) (was : Stores) (used : List Bool) (printed : List ℕ) (now : State App) (kept : Stores) (rest : List SeenLine) : Type 0 where
+  pub goes : (later : List Bool) → run script was (used ++ later) ≡ prints_first printed (run_from now kept rest later)

@@ -1,0 +1,67 @@
+-- Which bytes are a line, and which line they are.
+use Rattle.std.specs.Prelude.{ℕ, List, [], ◌∷◌, Bool, true, ◌||◌, ◌==◌, Option, Some, None, codes, bytes_eq, if◌then◌else◌}
+use Rattle.std.specs.List.{list_all}
+use Rattle.serde_json.specs.Data.{Data}
+use Rattle.serde_json.specs.Find.{get}
+use Rattle.melon_schema.specs.Bytes.{json_of}
+use Rattle.melon_schema.specs.Json.{◌>>=◌, given, has_only, text_at}
+use Rattle.melon_script.specs.SeenLine.{SeenLine, Open, Close, Write, Fetch, Rows}
+
+abbrev pub part_at : List ℕ → Data → Option Data
+part_at key d = get key d
+
+-- {"do":"open","app":text,"schema":any}
+unfoldable pub open_form : Data → Option SeenLine
+open_form d = do
+  known ← given (has_only (codes "do" ∷ codes "app" ∷ codes "schema" ∷ []) d)
+  app ← text_at (codes "app") d
+  schema ← part_at (codes "schema") d
+  Some (Open app schema)
+
+-- {"do":"close","app":text}
+unfoldable pub close_form : Data → Option SeenLine
+close_form d = do
+  known ← given (has_only (codes "do" ∷ codes "app" ∷ []) d)
+  app ← text_at (codes "app") d
+  Some (Close app)
+
+-- {"do":"write","app":text,"ops":any}
+unfoldable pub write_form : Data → Option SeenLine
+write_form d = do
+  known ← given (has_only (codes "do" ∷ codes "app" ∷ codes "ops" ∷ []) d)
+  app ← text_at (codes "app") d
+  ops ← part_at (codes "ops") d
+  Some (Write app ops)
+
+-- {"do":"fetch","app":text,"table":text,"query":any}
+unfoldable pub fetch_form : Data → Option SeenLine
+fetch_form d = do
+  known ← given (has_only (codes "do" ∷ codes "app" ∷ codes "table" ∷ codes "query" ∷ []) d)
+  app ← text_at (codes "app") d
+  table ← text_at (codes "table") d
+  query ← part_at (codes "query") d
+  Some (Fetch app table query)
+
+-- {"do":"rows","app":text,"table":text}
+unfoldable pub rows_form : Data → Option SeenLine
+rows_form d = do
+  known ← given (has_only (codes "do" ∷ codes "app" ∷ codes "table" ∷ []) d)
+  app ← text_at (codes "app") d
+  table ← text_at (codes "table") d
+  Some (Rows app table)
+
+unfoldable pub form_of : Data → Option SeenLine
+form_of d = do
+  word ← text_at (codes "do") d
+  if bytes_eq word (codes "open") then open_form d else
+      (if bytes_eq word (codes "close") then close_form d else
+      (if bytes_eq word (codes "write") then write_form d else
+      (if bytes_eq word (codes "fetch") then fetch_form d else
+      (if bytes_eq word (codes "rows") then rows_form d else None))))
+
+-- spaces and tabs alone
+abbrev pub is_blank : List ℕ → Bool
+is_blank bytes = list_all (λ b. b == 32 || b == 9) bytes
+
+unfoldable pub line_of : List ℕ → Option SeenLine
+line_of bytes = json_of bytes >>= form_of

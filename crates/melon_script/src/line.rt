@@ -1,0 +1,159 @@
+//! A line of a script.
+ghost use Rattle.std.specs.Prelude.{◌≡◌, Some};
+ghost use Rattle.serde_json.specs.View.{view};
+ghost use Rattle.melon_script.specs.Seen.{seen, AnswersSeen, ReadsLine, Takes};
+ghost use Rattle.melon_script.specs.Forms.{open_form, close_form, write_form, fetch_form, rows_form, form_of, is_blank, line_of, part_at};
+
+use melon_schema::reader::{has_only, json_of, text_at};
+use melon_schema::{Refusal, Text};
+use serde_json::Value;
+use std::alloc::Global;
+
+/// A line that isn't blank: one variant for each form, with a field for each further key. What a reader of its own
+/// refuses by name is kept as it stands.
+#[derive(Drop)]
+pub enum Line {
+    Open {
+        app: Text,
+        schema: Value,
+    },
+    Close {
+        app: Text,
+    },
+    Write {
+        app: Text,
+        ops: Value,
+    },
+    Fetch {
+        app: Text,
+        table: Text,
+        query: Value,
+    },
+    Rows {
+        app: Text,
+        table: Text,
+    },
+}
+
+/// Why a line was not read.
+#[derive(Clone, Copy, Debug, PartialEq, Eq)]
+pub enum LineFault {
+    /// The line is outside the grammar.
+    Form,
+    Memory,
+}
+
+/// The value under a key, which is taken out.
+fn take_part(json: &mut Value, key: &str) -> Result<Value, Refusal>
+    ensures { Takes result (part_at key.now (view json.old)) }
+{
+    match json.get_mut(key) {
+        Some(part) => Ok(part.take()),
+        None => Err(Refusal::Form),
+    }
+}
+
+#[tactic(auto, unfolding(crate::specs::Forms::open_form))]
+fn open_form(alloc: Global, json: &mut Value) -> Result<Line, Refusal>
+    ensures { AnswersSeen result (open_form (view json.old)) }
+{
+    if !has_only(json, &["do", "app", "schema"]) {
+        return Err(Refusal::Form);
+    }
+    let app = text_at(alloc, json, "app")?;
+    let schema = take_part(json, "schema")?;
+    Ok(Line::Open { app, schema })
+}
+
+#[tactic(auto, unfolding(crate::specs::Forms::close_form))]
+fn close_form(alloc: Global, json: &Value) -> Result<Line, Refusal>
+    ensures { AnswersSeen result (close_form (view json.now)) }
+{
+    if !has_only(json, &["do", "app"]) {
+        return Err(Refusal::Form);
+    }
+    let app = text_at(alloc, json, "app")?;
+    Ok(Line::Close { app })
+}
+
+#[tactic(auto, unfolding(crate::specs::Forms::write_form))]
+fn write_form(alloc: Global, json: &mut Value) -> Result<Line, Refusal>
+    ensures { AnswersSeen result (write_form (view json.old)) }
+{
+    if !has_only(json, &["do", "app", "ops"]) {
+        return Err(Refusal::Form);
+    }
+    let app = text_at(alloc, json, "app")?;
+    let ops = take_part(json, "ops")?;
+    Ok(Line::Write { app, ops })
+}
+
+#[tactic(auto, unfolding(crate::specs::Forms::fetch_form))]
+fn fetch_form(alloc: Global, json: &mut Value) -> Result<Line, Refusal>
+    ensures { AnswersSeen result (fetch_form (view json.old)) }
+{
+    if !has_only(json, &["do", "app", "table", "query"]) {
+        return Err(Refusal::Form);
+    }
+    let app = text_at(alloc, json, "app")?;
+    let table = text_at(alloc, json, "table")?;
+    let query = take_part(json, "query")?;
+    Ok(Line::Fetch { app, table, query })
+}
+
+#[tactic(auto, unfolding(crate::specs::Forms::rows_form))]
+fn rows_form(alloc: Global, json: &Value) -> Result<Line, Refusal>
+    ensures { AnswersSeen result (rows_form (view json.now)) }
+{
+    if !has_only(json, &["do", "app", "table"]) {
+        return Err(Refusal::Form);
+    }
+    let app = text_at(alloc, json, "app")?;
+    let table = text_at(alloc, json, "table")?;
+    Ok(Line::Rows { app, table })
+}
+
+#[tactic(auto, unfolding(crate::specs::Forms::form_of))]
+fn form_of(alloc: Global, json: &mut Value) -> Result<Line, Refusal>
+    ensures { AnswersSeen result (form_of (view json.old)) }
+{
+    let word = text_at(alloc, json, "do")?;
+    match word.as_str() {
+        "open" => open_form(alloc, json),
+        "close" => close_form(alloc, json),
+        "write" => write_form(alloc, json),
+        "fetch" => fetch_form(alloc, json),
+        "rows" => rows_form(alloc, json),
+        _ => Err(Refusal::Form),
+    }
+}
+
+fn is_blank(bytes: &[u8]) -> bool
+    ensures { result ≡ is_blank bytes.now }
+{
+    bytes.iter().all(|byte| *byte == b' ' || *byte == b'\t')
+}
+
+#[tactic(auto, unfolding(crate::specs::Forms::line_of))]
+fn line_of(alloc: Global, bytes: &[u8]) -> Result<Line, Refusal>
+    ensures { AnswersSeen result (line_of bytes.now) }
+{
+    let mut json = json_of(alloc, bytes)?;
+    form_of(alloc, &mut json)
+}
+
+impl Line {
+    /// The line that the bytes are, without their line end; None for a line of spaces and tabs alone.
+    pub fn read(alloc: Global, bytes: &[u8]) -> Result<Option<Line>, LineFault>
+        ensures { ReadsLine bytes.now result }
+    {
+        if is_blank(bytes) {
+            return Ok(None);
+        }
+        match line_of(alloc, bytes) {
+            Ok(line) => Ok(Some(line)),
+            Err(Refusal::Form) => Err(LineFault::Form),
+            Err(Refusal::Memory) => Err(LineFault::Memory),
+        }
+    }
+}

@@ -1,0 +1,190 @@
+//! The texts of items.
+ghost use Rattle.std.specs.Prelude.{◌≡◌, ◌++◌, IfOk, OnOk, string_bytes};
+ghost use Rattle.melon_script.specs.Printed.{list_text, quoted, with_commas, joined, open_text, close_text, write_text, fetch_text, rows_head, rows_text, group_word, detail_text, details_text, refused_head, refused_text, item_text, answer_text};
+
+use crate::Answer;
+use crate::item::{Detail, Group, Item};
+use melon_raw::Id;
+use melon_schema::List;
+use serde_json::Value;
+use std::alloc::{AllocError, Global};
+
+fn list_text(alloc: Global, ids: &[Id]) -> Result<String, AllocError>
+    ensures { IfOk result (λ text. string_bytes text ≡ list_text ids.now) }
+{
+    let mut items = Vec::new(alloc);
+    for id in ids {
+        items.push(Value::String(String::from_str(alloc, id.as_str())?))?;
+    }
+    Value::Array(items).to_string(alloc)
+}
+
+fn quoted(alloc: Global, text: &str) -> Result<String, AllocError>
+    ensures { IfOk result (λ written. string_bytes written ≡ quoted text.now) }
+{
+    Value::String(String::from_str(alloc, text)?).to_string(alloc)
+}
+
+fn open_text(alloc: Global, app: &str, rows: u64, last: u64) -> Result<String, AllocError>
+    ensures { IfOk result (λ text. string_bytes text ≡ open_text app.now rows last) }
+{
+    format!(in alloc; "open {app} rows {rows} last {last}\n")
+}
+
+fn close_text(alloc: Global, app: &str) -> Result<String, AllocError>
+    ensures { IfOk result (λ text. string_bytes text ≡ close_text app.now) }
+{
+    format!(in alloc; "close {app}\n")
+}
+
+fn write_text(alloc: Global, app: &str, at: u64) -> Result<String, AllocError>
+    ensures { IfOk result (λ text. string_bytes text ≡ write_text app.now at) }
+{
+    format!(in alloc; "write {app} at {at}\n")
+}
+
+fn fetch_text(alloc: Global, app: &str, ids: &[Id]) -> Result<String, AllocError>
+    ensures { IfOk result (λ text. string_bytes text ≡ fetch_text app.now ids.now) }
+{
+    let list = list_text(alloc, ids)?;
+    let list = list.as_str();
+    format!(in alloc; "fetch {app} {list}\n")
+}
+
+/// Adds each behind a comma.
+fn put_with_commas(out: &mut Vec<u8>, rows: &[List<u8>]) -> Result<(), AllocError>
+    ensures { OnOk result (out.new.items ≡ out.old.items ++ with_commas rows.now) }
+{
+    for row in rows {
+        out.push(b',')?;
+        out.extend_from_slice(row.as_slice())?;
+    }
+    Ok(())
+}
+
+/// Adds them one after another, with commas between.
+fn put_joined(out: &mut Vec<u8>, rows: &[List<u8>]) -> Result<(), AllocError>
+    ensures { OnOk result (out.new.items ≡ out.old.items ++ joined rows.now) }
+{
+    match rows {
+        [] => Ok(()),
+        [first, rest @ ..] => {
+            out.extend_from_slice(first.as_slice())?;
+            put_with_commas(out, rest)
+        }
+    }
+}
+
+fn rows_head(alloc: Global, app: &str, table: &str) -> Result<String, AllocError>
+    ensures { IfOk result (λ text. string_bytes text ≡ rows_head app.now table.now) }
+{
+    format!(in alloc; "rows {app} {table} [")
+}
+
+fn rows_text(
+    alloc: Global,
+    app: &str,
+    table: &str,
+    rows: &[List<u8>],
+) -> Result<Vec<u8>, AllocError>
+    ensures { IfOk result (λ out. out.items ≡ rows_text app.now table.now rows.now) }
+{
+    let mut out = rows_head(alloc, app, table)?.into_bytes();
+    put_joined(&mut out, rows)?;
+    out.extend_from_slice(b"]\n")?;
+    Ok(out)
+}
+
+fn group_word(group: Group) -> &'static str
+    ensures { result.now ≡ group_word group }
+{
+    match group {
+        Group::App => "app",
+        Group::Open => "open",
+        Group::Schema => "schema",
+        Group::Table => "table",
+        Group::Ops => "ops",
+        Group::Batch => "batch",
+        Group::Full => "full",
+        Group::Query => "query",
+        Group::Keeper => "keeper",
+    }
+}
+
+fn detail_text(alloc: Global, detail: &Detail) -> Result<String, AllocError>
+    ensures { IfOk result (λ text. string_bytes text ≡ detail_text detail.now) }
+{
+    match detail {
+        Detail::Number(number) => format!(in alloc; "{number}"),
+        Detail::Words(text) => quoted(alloc, text.as_str()),
+    }
+}
+
+/// Adds each behind a space.
+fn put_details(alloc: Global, out: &mut Vec<u8>, details: &[Detail]) -> Result<(), AllocError>
+    ensures { OnOk result (out.new.items ≡ out.old.items ++ details_text details.now) }
+{
+    for detail in details {
+        let text = detail_text(alloc, detail)?;
+        out.push(b' ')?;
+        out.extend_from_slice(text.as_bytes())?;
+    }
+    Ok(())
+}
+
+fn refused_head(alloc: Global, group: Group, number: u64) -> Result<String, AllocError>
+    ensures { IfOk result (λ text. string_bytes text ≡ refused_head group number) }
+{
+    let word = group_word(group);
+    format!(in alloc; "refused {word} {number}")
+}
+
+fn refused_text(
+    alloc: Global,
+    group: Group,
+    number: u64,
+    details: &[Detail],
+) -> Result<Vec<u8>, AllocError>
+    ensures { IfOk result (λ out. out.items ≡ refused_text group number details.now) }
+{
+    let mut out = refused_head(alloc, group, number)?.into_bytes();
+    put_details(alloc, &mut out, details)?;
+    out.push(b'\n')?;
+    Ok(out)
+}
+
+/// The text of one item.
+fn item_text(alloc: Global, item: &Item) -> Result<Vec<u8>, AllocError>
+    ensures { IfOk result (λ out. out.items ≡ item_text item.now) }
+{
+    match item {
+        Item::Open { app, rows, last } => {
+            Ok(open_text(alloc, app.as_str(), *rows, *last)?.into_bytes())
+        }
+        Item::Close { app } => Ok(close_text(alloc, app.as_str())?.into_bytes()),
+        Item::Write { app, at } => Ok(write_text(alloc, app.as_str(), *at)?.into_bytes()),
+        Item::Fetch { app, ids } => {
+            Ok(fetch_text(alloc, app.as_str(), ids.as_slice())?.into_bytes())
+        }
+        Item::Rows { app, table, rows } => {
+            rows_text(alloc, app.as_str(), table.as_str(), rows.as_slice())
+        }
+        Item::Refused {
+            group,
+            number,
+            details,
+        } => refused_text(alloc, *group, *number, details.as_slice()),
+    }
+}
+
+/// The texts of the items, one after another, each ended by a line feed.
+pub fn print(alloc: Global, answer: &Answer) -> Result<Vec<u8>, AllocError>
+    ensures { IfOk result (λ out. out.items ≡ answer_text answer.now) }
+{
+    let mut out = Vec::new(alloc);
+    for item in answer.as_slice() {
+        let text = item_text(alloc, item)?;
+        out.extend_from_slice(text.as_slice())?;
+    }
+    Ok(out)
+}
