@@ -2,7 +2,8 @@
 #![tactic(auto)]
 
 use melon_cli::{Status, melon_run};
-use melon_outside::{StdSink, StdSource};
+use melon_outside::{MemoryKeeper, StdSink, StdSource};
+use melon_schema::List;
 use std::process::ExitCode;
 use std::rt::Env;
 use std::{env, io};
@@ -19,9 +20,17 @@ fn run_on(rt: &HostRuntime) -> Status {
     let Ok(words) = words_of(rt) else {
         return Status::BadWords;
     };
+    let alloc = rt.alloc();
     let mut input = StdSource::new(rt.stdin());
     let mut output = StdSink::new(rt.stdout());
-    melon_run(rt.alloc(), words.as_slice(), &mut input, &mut output)
+    let mut keeper = MemoryKeeper::new(alloc, List::new(alloc), List::new(alloc));
+    melon_run(
+        alloc,
+        words.as_slice(),
+        &mut input,
+        &mut output,
+        &mut keeper,
+    )
 }
 
 /// Says on standard error how a run ended that isn't done. A failed write there has nowhere to be told.

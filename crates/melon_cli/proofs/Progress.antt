@@ -1,151 +1,226 @@
--- How far a run has come: what it printed, and what its lines still print.
-use Rattle.std.proofs.Common.{◌≡◌, ℕ, ◌+◌, ◌≤◌, List, [], ◌∷◌, ◌++◌, length, take, drop, min, refl, sym, ap, subst, ◌∙◌, append_assoc, append-nil, arith}
-use Rattle.std.specs.Prelude.{Option, Some, None}
-use Rattle.std.proofs.lemmas.Grind.{common_steps}
-use Rattle.std.proofs.lemmas.List.{take_at, take-append-le, take-append-drop, take_min, length-take}
-use Rattle.std.proofs.Math.Seq.{take-append-add}
+-- How far a run has come: what it printed, and the lines that it still takes.
+use Rattle.std.proofs.Common.{◌≡◌, ℕ, ◌+◌, ◌≤◌, List, [], ◌∷◌, ◌++◌, length, map, Bool, true, ◌⊎◌, inl, inr, refl, sym, ap, subst, ◌∙◌, append-nil, arith}
+use Rattle.std.specs.Prelude.{Option, Some, None, Result, Ok}
+use Rattle.melon_outside.specs.Keeping.{Stores, AreSame}
 use Rattle.melon_outside.specs.Moves.{Grows, GrowsByFront}
-use Rattle.melon_outside.proofs.Chains.{grows_more, grows_none}
-use Rattle.melon_world.specs.declared.world.App.{App}
-use Rattle.melon_world.specs.Lines.{lines_of}
-use Rattle.melon_world.specs.Machine.{text, bad_line, text_from, bad_from, then_text, then_bad, line_step}
-use Rattle.melon_cli.specs.Runs.{Pends, PendsFront}
+use Rattle.melon_board.specs.Carried.{HoldsAsBefore}
+use Rattle.melon_board.specs.Stores.{SeenStore}
+use Rattle.melon_script.specs.SeenLine.{SeenLine}
+use Rattle.melon_script.specs.declared.line.Line.{Line}
+use Rattle.melon_script.specs.Forms.{is_blank}
+use Rattle.melon_script.specs.Seen.{ReadsLine}
+use Rattle.melon_script.specs.Lines.{lines_of}
+use Rattle.melon_script.specs.Script.{forms_in, forms_of, bad_from, bad_line, IsLine, IsOutside}
+use Rattle.melon_script.specs.Printed.{answer_text}
+use Rattle.melon_machine.specs.Calls.{Calls, failures, RoseBy, Follows}
+use Rattle.melon_machine.specs.State.{App, State, stores_of, as_kept, none_open}
+use Rattle.melon_machine.specs.Step.{Stepped, ends_with}
+use Rattle.melon_machine.specs.Run.{Ran, run, line_calls, ComesTo}
+use Rattle.melon_machine.proofs.Followed.{same_is, rose_more}
+use Rattle.melon_machine.proofs.Ran as machine
+use Rattle.melon_cli.specs.Runs as runs
+use Rattle.melon_cli.specs.Runs.{RunsWhole, RanSoFar, RunsSoFar, RunsTo, Pends, PendsFront, Takes, IsUntouched}
+use Rattle.melon_cli.proofs.Fronts.{pends_all, pends_more, pends_written, pends_cut, pends_front, front_written, written_cut, front_written_cut}
 
--- ---- what is pending
+-- The run has come to these lines, and the world has the stores of its apps.
+pub record At (script : List ℕ) (was m : Stores) (count count' : ℕ) (world : State SeenStore) (rest : List SeenLine) (Shows : List ℕ → Type 0) : Type 0 where
+  pub so_far : RanSoFar script was m count count' rest Shows
+  pub same : stores_of so_far.now ≡ world
 
--- nothing was written
-pub pends_all : (before : Option (List ℕ)) (pending whole : List ℕ) → pending ≡ whole → Pends before before pending whole
-pends_all before pending whole is = record { written = []; grows = grows_none before; text_is = is }
+pub record Progress (script : List ℕ) (held holds : Stores → Type 0) (count count' : ℕ) (before after : Option (List ℕ)) (pending : List ℕ) (world : State SeenStore) (rest : List ℕ) (number : ℕ) : Type 0 where
+  pub bad_is : bad_from number (lines_of rest) ≡ bad_line script
+  pub goes : (m : Stores) → holds m → (was : Stores) × held was × At script was m count count' world (forms_of (lines_of rest)) (Pends before after pending)
 
--- all was written
-pub pends_none : (before after : Option (List ℕ)) (pending whole : List ℕ) → Grows before after whole → pending ≡ [] → Pends before after pending whole
-pends_none before after pending whole grows none = record { written = whole; grows = grows; text_is = ap (λ p. whole ++ p) none ∙ append-nil whole }
-
--- a text more
-pub pends_more : (before between after : Option (List ℕ)) (pending whole printed pending' whole' : List ℕ) → Pends before between pending whole → Pends between after pending' (pending ++ printed) → whole ++ printed ≡ whole' → Pends before after pending' whole'
-pends_more before between after pending whole printed pending' whole' p q is = record {
-  written = p.written ++ q.written;
-  grows = grows_more before between after p.written q.written p.grows q.grows;
-  text_is = append_assoc p.written q.written pending' ∙ ap (λ t. p.written ++ t) q.text_is ∙ sym (append_assoc p.written pending printed) ∙ ap (λ t. t ++ printed) p.text_is ∙ is;
+-- what is kept, and the count, a little later
+carried : {script : List ℕ} {was mid : Stores} (m : Stores) {count between : ℕ} (count' : ℕ) {rest : List SeenLine} {P Q : List ℕ → Type 0} → RanSoFar script was mid count between rest P → AreSame m mid → between ≤ count'
+    → ((printed : List ℕ) → P printed → Q printed) → RanSoFar script was m count count' rest Q
+carried {script} {was} {mid} m {count} {between} count' {rest} {P} {Q} r same later more = record {
+  outcomes = r.outcomes;
+  printed = r.printed;
+  now = r.now;
+  comes = subst (λ (k : Stores). ComesTo script was r.outcomes r.printed r.now k rest) (sym (same_is m mid same)) r.comes;
+  rose = omega (arith, r.rose, later);
+  shows = more r.printed r.shows;
 }
 
--- what is pending was written
-pub pends_written : (before between after : Option (List ℕ)) (pending whole : List ℕ) → Pends before between pending whole → Grows between after pending → Grows before after whole
-pends_written before between after pending whole p grows = subst (λ (t : List ℕ). Grows before after t) p.text_is (grows_more before between after p.written pending p.grows grows)
+module _ (script : List ℕ) (held : Stores → Type 0) (count : ℕ) (before : Option (List ℕ)) where
+  pub at_start : (pending : List ℕ) (world : State SeenStore) → pending ≡ [] → world ≡ none_open → Progress script held held count count before before pending world script 0
+  unfolding bad_line forms_in
+  at_start pending world none new = record {
+    bad_is = refl;
+    goes = λ m told. (
+      m,
+      told,
+      record {
+        so_far = record {
+          outcomes = [];
+          printed = [];
+          now = none_open;
+          comes = machine.at_start script m;
+          rose = omega arith;
+          shows = pends_all before pending [] none;
+        };
+        same = sym new;
+      },
+    );
+  }
 
--- a front of what is pending, and of what comes behind it, was written
-pub pends_cut : (before between after : Option (List ℕ)) (pending whole printed later text : List ℕ) → Pends before between pending whole → GrowsByFront between after (pending ++ printed) → (whole ++ printed) ++ later ≡ text → GrowsByFront before after text
-pends_cut before between after pending whole printed later text p cut is =
-    let front : (p.written ++ (pending ++ printed)) ++ later ≡ text = ap (λ t. t ++ later) (sym (append_assoc p.written pending printed) ∙ ap (λ t. t ++ printed) p.text_is) ∙ is in
-    let front' : p.written ++ ((pending ++ printed) ++ later) ≡ text = sym (append_assoc p.written (pending ++ printed) later) ∙ front in
-    let n = cut.0 in (
-      length p.written + n,
-      subst (λ (t : List ℕ). length p.written + n ≤ length t) front' (within p.written (pending ++ printed) later n cut.1),
-      subst (λ (t : List ℕ). Grows before after t)
-          (sym (ap (take (length p.written + n)) (sym front') ∙ take-append-add p.written ((pending ++ printed) ++ later) n ∙ ap (λ t. p.written ++ t) (take-append-le n (pending ++ printed) later cut.1)))
-          (grows_more before between after p.written (take n (pending ++ printed)) p.grows cut.2),
-    )
-  where
-    within : (xs ys zs : List ℕ) (n : ℕ) → n ≤ length ys → length xs + n ≤ length (xs ++ (ys ++ zs))
-    within xs ys zs n h = grind (arith, common_steps)
+  module _ (mid : Stores → Type 0) (between : ℕ) (written : Option (List ℕ)) (pending : List ℕ) (world : State SeenStore) (rest : List ℕ) (number : ℕ) (p : Progress script held mid count between before written pending world rest number)
+      (bytes later : List ℕ) (is : lines_of rest ≡ bytes ∷ lines_of later) (holds : Stores → Type 0) (count' : ℕ) where
+    -- one line more, however its text is shown
+    line_more : (world' : State SeenStore) (Shows Left : List ℕ → Type 0) → IsLine bytes → Takes (line_calls as_kept world bytes) world' mid holds between count' Shows
+        → ((printed text : List ℕ) → Pends before written pending printed → Shows text → Left (printed ++ text))
+        → (m : Stores) → holds m → (was : Stores) × held was × At script was m count count' world' (forms_of (lines_of later)) Left
+    line_more world' Shows Left line takes more m told =
+        let t = takes m told in
+        let g = p.goes t.0 t.1 in
+        let at = g.2.so_far in
+        let o = machine.one_line_more script g.0 at.outcomes at.printed at.now t.0 bytes (lines_of later) t.2 world' t.3 m line
+        (subst (λ (ls : List (List ℕ)). ComesTo script g.0 at.outcomes at.printed at.now t.0 (forms_of ls)) is at.comes)
+        (subst (λ (w : State SeenStore). Follows (line_calls as_kept w bytes) t.0 t.2 (ends_with world' t.3) m) (sym g.2.same) t.4) in (
+          g.0,
+          g.1,
+          record {
+            so_far = record {
+              outcomes = at.outcomes ++ t.2;
+              printed = at.printed ++ answer_text t.3;
+              now = o.0;
+              comes = o.2;
+              rose = rose_more at.outcomes t.2 count between count' at.rose t.5;
+              shows = more at.printed (answer_text t.3) at.shows t.6;
+            };
+            same = o.1;
+          },
+        )
 
--- ---- the run
-
--- What was printed and what the rest prints are the text; where the rest leaves the grammar, the script does.
-pub record Progress (script : List ℕ) (before after : Option (List ℕ)) (pending : List ℕ) (app : Option App) (rest : List ℕ) (number : ℕ) : Type 0 where
-  pub printed : List ℕ
-  pub pends : Pends before after pending printed
-  pub text_is : printed ++ text_from app (lines_of rest) ≡ text script
-  pub bad_is : bad_from number app (lines_of rest) ≡ bad_line script
-
-pub at_start : (script : List ℕ) (before : Option (List ℕ)) (pending : List ℕ) (app : Option App) → pending ≡ [] → app ≡ None → Progress script before before pending app script 0
-unfolding text bad_line
-at_start script before pending app none closed = record {
-  printed = [];
-  pends = pends_all before pending [] none;
-  text_is = ap (λ a. text_from a (lines_of script)) closed;
-  bad_is = ap (λ a. bad_from 0 a (lines_of script)) closed;
-}
-
--- a line's step, in the text of the rest
-rest_text : (app next : Option App) (rest line later printed : List ℕ) → lines_of rest ≡ line ∷ lines_of later → line_step app line ≡ Some (next, printed) → text_from app (lines_of rest) ≡ printed ++ text_from next (lines_of later)
-unfolding text_from
-rest_text app next rest line later printed is step = ap (text_from app) is ∙ ap (λ s. then_text s (λ n. text_from n (lines_of later))) step
-
--- a line of the rest
-pub after_line : {script : List ℕ} {before between after : Option (List ℕ)} {pending : List ℕ} {app next : Option App} {rest : List ℕ} (line later printed pending' : List ℕ) {number : ℕ} → Progress script before between pending app rest number
-    → lines_of rest ≡ line ∷ lines_of later → line_step app line ≡ Some (next, printed) → Pends between after pending' (pending ++ printed) → Progress script before after pending' next later (number + 1)
-unfolding bad_from
-after_line {script} {before} {between} {after} {pending} {app} {next} {rest} line later printed pending' {number} p is step put =
-    record {
-      printed = p.printed ++ printed;
-      pends = pends_more before between after pending p.printed printed pending' (p.printed ++ printed) p.pends put refl;
-      text_is = append_assoc p.printed printed (text_from next (lines_of later)) ∙ ap (λ t. p.printed ++ t) (sym (rest_text app next rest line later printed is step)) ∙ p.text_is;
-      bad_is = sym (ap (bad_from number app) is ∙ ap (λ s. then_bad (number + 1) s (λ n. bad_from (number + 1) n (lines_of later))) step) ∙ p.bad_is;
+    pub after_line : (world' : State SeenStore) (after : Option (List ℕ)) (pending' : List ℕ) → IsLine bytes
+        → Takes (line_calls as_kept world bytes) world' mid holds between count' (λ text. Pends written after pending' (pending ++ text)) → Progress script held holds count count' before after pending' world' later (number + 1)
+    after_line world' after pending' line takes = record {
+      bad_is = sym (ap (bad_from number) is ∙ machine.bad_later number bytes (lines_of later) line) ∙ p.bad_is;
+      goes = line_more world' (λ text. Pends written after pending' (pending ++ text)) (Pends before after pending') line takes
+          (λ printed text shown more. pends_more before written after pending printed text pending' (printed ++ text) shown more refl);
     }
 
--- a line outside the grammar
-pub at_bad : {script : List ℕ} {before after : Option (List ℕ)} {pending : List ℕ} {app : Option App} {rest : List ℕ} (line later : List ℕ) {number : ℕ} → Progress script before after pending app rest number
-    → lines_of rest ≡ line ∷ lines_of later → line_step app line ≡ None → (bad_line script ≡ Some (number + 1)) × Pends before after pending (text script)
-unfolding text_from bad_from
-at_bad {script} {before} {after} {pending} {app} {rest} line later {number} p is step = (
-  sym p.bad_is ∙ ap (bad_from number app) is ∙ ap (λ s. then_bad (number + 1) s (λ n. bad_from (number + 1) n (lines_of later))) step,
-  subst (λ (t : List ℕ). Pends before after pending t) (sym (append-nil p.printed) ∙ ap (λ t. p.printed ++ t) (sym (ap (text_from app) is ∙ ap (λ s. then_text s (λ n. text_from n (lines_of later))) step)) ∙ p.text_is) p.pends,
-)
-
--- nothing is left
-pub at_end : {script : List ℕ} {before after : Option (List ℕ)} {pending : List ℕ} {app : Option App} {rest : List ℕ} {number : ℕ} → Progress script before after pending app rest number → length rest ≡ 0
-    → (bad_line script ≡ None) × Pends before after pending (text script)
-unfolding text_from bad_from
-at_end {script} {before} {after} {pending} {app} {rest} {number} p none =
-    let is : rest ≡ [] = empty_from rest none in (
-      sym p.bad_is ∙ ap (λ (r : List ℕ). bad_from number app (lines_of r)) is,
-      subst (λ (t : List ℕ). Pends before after pending t) (sym (append-nil p.printed) ∙ ap (λ (r : List ℕ). p.printed ++ text_from app (lines_of r)) (sym is) ∙ p.text_is) p.pends,
+    -- the line is outside the grammar
+    pub at_outside : (after : Option (List ℕ)) (pending' : List ℕ) → IsOutside bytes → IsUntouched written after pending pending' → HoldsAsBefore mid holds → between ≤ count'
+        → (bad_line script ≡ Some (number + 1)) × RunsTo script held holds count count' [] (Pends before after pending')
+    at_outside after pending' outside untouched as_before rose = (
+      sym p.bad_is ∙ ap (bad_from number) is ∙ machine.bad_here number bytes (lines_of later) outside.0 outside.1,
+      λ m told.
+          let h = as_before m told in
+          let g = p.goes h.0 h.1 in
+          let at = g.2.so_far in (
+            g.0,
+            g.1,
+            carried m count' (record {
+              outcomes = at.outcomes;
+              printed = at.printed;
+              now = at.now;
+              comes = machine.at_bad script g.0 at.outcomes at.printed at.now h.0 bytes (lines_of later) outside.0 outside.1
+                  (subst (λ (ls : List (List ℕ)). ComesTo script g.0 at.outcomes at.printed at.now h.0 (forms_of ls)) is at.comes);
+              rose = at.rose;
+              shows = at.shows;
+            }) h.2 rose (λ printed shown. same_pends after pending' untouched printed shown),
+          ),
     )
-  where
-    empty_from : (xs : List ℕ) → length xs ≡ 0 → xs ≡ []
-    empty_from [] h = refl
-    empty_from (x ∷ xs) h = absurd (omega (arith, h))
+      where
+        same_pends : (after : Option (List ℕ)) (pending' : List ℕ) → IsUntouched written after pending pending' → (printed : List ℕ) → Pends before written pending printed → Pends before after pending' printed
+        same_pends after pending' u printed shown =
+            subst (λ (a : Option (List ℕ)). Pends before a pending' printed) (sym u.0) (subst (λ (q : List ℕ). Pends before written q printed) (sym u.1) shown)
 
--- what was printed is a front of the text
-pub front : {script : List ℕ} {before after : Option (List ℕ)} {pending : List ℕ} {app : Option App} {rest : List ℕ} {number : ℕ} → Progress script before after pending app rest number → PendsFront before after pending (text script)
-front {script} {before} {after} {pending} {app} {rest} {number} p = record {
-  count = length p.printed;
-  pends = subst (λ (t : List ℕ). Pends before after pending t) (sym (ap (take (length p.printed)) (sym p.text_is) ∙ take_at p.printed (text_from app (lines_of rest)) (length p.printed) refl)) p.pends;
-}
+    -- memory ran out before the machine did anything
+    pub stopped_before : (after : Option (List ℕ)) (pending' : List ℕ) → IsUntouched written after pending pending' → HoldsAsBefore mid holds → between ≤ count' → RunsSoFar script held holds count count' (PendsFront before after pending')
+    stopped_before after pending' untouched as_before rose m told =
+        let h = as_before m told in
+        let g = p.goes h.0 h.1 in
+        (g.0, g.1, forms_of (lines_of rest), carried m count' g.2.so_far h.2 rose (λ printed shown. front_kept printed [] after pending' untouched shown printed (sym (append-nil printed))))
+      where
+        front_kept : (printed later : List ℕ) (after : Option (List ℕ)) (pending' : List ℕ) → IsUntouched written after pending pending' → Pends before written pending printed → (whole : List ℕ) → whole ≡ printed ++ later → PendsFront before after pending' whole
+        front_kept printed later after pending' u shown whole e =
+            subst (λ (a : Option (List ℕ)). PendsFront before a pending' whole) (sym u.0)
+            (subst (λ (q : List ℕ). PendsFront before written q whole) (sym u.1)
+            (subst (λ (w : List ℕ). PendsFront before written pending w) (sym e) (pends_front before written pending printed later shown)))
 
--- and so it is where the text of a line wasn't added
-pub front_kept : {script : List ℕ} {before between : Option (List ℕ)} (after : Option (List ℕ)) {pending : List ℕ} (pending' : List ℕ) {app : Option App} {rest : List ℕ} {number : ℕ} → Progress script before between pending app rest number → after ≡ between → pending' ≡ pending → PendsFront before after pending' (text script)
-front_kept {script} {before} {between} after {pending} pending' {app} {rest} {number} p same kept =
-    subst (λ (a : Option (List ℕ)). PendsFront before a pending' (text script)) (sym same) (subst (λ (q : List ℕ). PendsFront before between q (text script)) (sym kept) (front p))
+    -- memory ran out before the text of the line was added
+    pub stopped_after : (world' : State SeenStore) (after : Option (List ℕ)) (pending' : List ℕ) → IsUntouched written after pending pending' → IsLine bytes
+        → Takes (line_calls as_kept world bytes) world' mid holds between count' (λ _. Unit {0}) → RunsSoFar script held holds count count' (PendsFront before after pending')
+    stopped_after world' after pending' u line takes m told =
+        let l = line_more world' (λ _. Unit {0}) (PendsFront before after pending') line takes
+        (λ printed text shown _. subst (λ (a : Option (List ℕ)). PendsFront before a pending' (printed ++ text)) (sym u.0)
+        (subst (λ (q : List ℕ). PendsFront before written q (printed ++ text)) (sym u.1) (pends_front before written pending printed text shown))) m told in
+        (l.0, l.1, forms_of (lines_of later), l.2.so_far)
 
--- a front of the text was written where a write was cut short
-pub front_cut : {script : List ℕ} {before between : Option (List ℕ)} (after : Option (List ℕ)) {pending : List ℕ} {app : Option App} (next : Option App) {rest : List ℕ} (line later printed : List ℕ) {number : ℕ} → Progress script before between pending app rest number
-    → lines_of rest ≡ line ∷ lines_of later → line_step app line ≡ Some (next, printed) → GrowsByFront between after (pending ++ printed) → GrowsByFront before after (text script)
-front_cut {script} {before} {between} after {pending} {app} next {rest} line later printed {number} p is step cut =
-    pends_cut before between after pending p.printed printed (text_from next (lines_of later)) (text script) p.pends cut
-    (append_assoc p.printed printed (text_from next (lines_of later)) ∙ ap (λ t. p.printed ++ t) (sym (rest_text app next rest line later printed is step)) ∙ p.text_is)
+    pub stopped : (world' : State SeenStore) (after : Option (List ℕ)) (pending' : List ℕ) → IsUntouched written after pending pending' → between ≤ count'
+        → HoldsAsBefore mid holds ⊎ (IsLine bytes × Takes (line_calls as_kept world bytes) world' mid holds between count' (λ _. Unit {0})) → RunsSoFar script held holds count count' (PendsFront before after pending')
+    stopped world' after pending' u rose (inl as_before) = stopped_before after pending' u as_before rose
+    stopped world' after pending' u rose (inr taken) = stopped_after world' after pending' u taken.0 taken.1
 
--- ---- the last write
+    -- the output failed
+    pub cut_short : (world' : State SeenStore) (after : Option (List ℕ)) → IsLine bytes
+        → Takes (line_calls as_kept world bytes) world' mid holds between count' (λ text. GrowsByFront written after (pending ++ text)) → RunsSoFar script held holds count count' (GrowsByFront before after)
+    cut_short world' after line takes m told =
+        let l = line_more world' (λ text. GrowsByFront written after (pending ++ text)) (GrowsByFront before after) line takes
+        (λ printed text shown cut. pends_cut before written after pending printed text [] (printed ++ text) shown cut (append-nil (printed ++ text))) m told in
+        (l.0, l.1, forms_of (lines_of later), l.2.so_far)
 
--- a front of the first bytes is a front
-front_of_front : (before after : Option (List ℕ)) (whole : List ℕ) (count : ℕ) → GrowsByFront before after (take count whole) → GrowsByFront before after whole
-front_of_front before after whole count cut = (
-  cut.0,
-  omega (arith, cut.1, length-take count whole),
-  subst (λ (t : List ℕ). Grows before after t) (sym (take-append-le cut.0 (take count whole) (drop count whole) cut.1) ∙ ap (take cut.0) (take-append-drop count whole)) cut.2,
-)
+  module _ (holds : Stores → Type 0) (count' : ℕ) where
+    -- nothing is left
+    pub at_end : (after : Option (List ℕ)) (pending : List ℕ) (world : State SeenStore) (rest : List ℕ) (number : ℕ) → Progress script held holds count count' before after pending world rest number → length rest ≡ 0
+        → (bad_line script ≡ None) × RunsTo script held holds count count' [] (Pends before after pending)
+    at_end after pending world rest number p none =
+        let is : rest ≡ [] = empty_from rest none in (
+          sym p.bad_is ∙ ap (λ (r : List ℕ). bad_from number (lines_of r)) is,
+          λ m told.
+              let g = p.goes m told in
+              (g.0, g.1, subst (λ (r : List ℕ). RanSoFar script g.0 m count count' (forms_of (lines_of r)) (Pends before after pending)) is g.2.so_far),
+        )
+      where
+        empty_from : (xs : List ℕ) → length xs ≡ 0 → xs ≡ []
+        empty_from [] h = refl
+        empty_from (x ∷ xs) h = absurd (omega (arith, h))
 
--- all that was pending of a front was written
-pub front_written : (before between after : Option (List ℕ)) (pending whole : List ℕ) → PendsFront before between pending whole → Grows between after pending → GrowsByFront before after whole
-front_written before between after pending whole p grows =
-    let written : Grows before after (take p.count whole) = pends_written before between after pending (take p.count whole) p.pends grows in
-    (min p.count (length whole), omega arith, subst (λ (t : List ℕ). Grows before after t) (sym (take_min p.count whole)) written)
+    pub front_of : (after : Option (List ℕ)) (pending : List ℕ) (rest : List SeenLine) → RunsTo script held holds count count' rest (Pends before after pending) → RunsSoFar script held holds count count' (PendsFront before after pending)
+    front_of after pending rest r m told =
+        let g = r m told in
+        (g.0, g.1, rest, carried m count' g.2 (λ name. refl) (omega arith) (λ printed shown. subst (λ (w : List ℕ). PendsFront before after pending w) (append-nil printed) (pends_front before after pending printed [] shown)))
 
--- a front of what is pending was written
-pub written_cut : (before between after : Option (List ℕ)) (pending whole : List ℕ) → Pends before between pending whole → GrowsByFront between after pending → GrowsByFront before after whole
-written_cut before between after pending whole p cut =
-    pends_cut before between after pending whole [] [] whole p (subst (λ (t : List ℕ). GrowsByFront between after t) (sym (append-nil pending)) cut) (append-nil (whole ++ []) ∙ append-nil whole)
+    -- ---- the last write
 
-pub front_written_cut : (before between after : Option (List ℕ)) (pending whole : List ℕ) → PendsFront before between pending whole → GrowsByFront between after pending → GrowsByFront before after whole
-front_written_cut before between after pending whole p cut = front_of_front before after whole p.count (written_cut before between after pending (take p.count whole) p.pends cut)
+    pub whole : (written after : Option (List ℕ)) (pending : List ℕ) → RunsTo script held holds count count' [] (Pends before written pending) → Grows written after pending → RunsWhole script held holds before after count count'
+    whole written after pending r grows m told =
+        let g = r m told in
+        let at = g.2 in
+        let end = machine.at_end script g.0 at.outcomes at.printed at.now m at.comes in (
+          g.0,
+          g.1,
+          record {
+            outcomes = at.outcomes;
+            written = subst (λ (t : List ℕ). Grows before after t) (sym (ap (λ (e : Ran). e.text) end)) (pends_written before written after pending at.printed at.shows grows);
+            kept = λ name. sym (ap (λ (e : Ran). e.kept name) end);
+            rose = at.rose;
+          },
+        )
+
+    pub front_was_written : (written after : Option (List ℕ)) (pending : List ℕ) → RunsSoFar script held holds count count' (PendsFront before written pending) → Grows written after pending → RunsSoFar script held holds count count' (GrowsByFront before after)
+    front_was_written written after pending r grows m told =
+        let g = r m told in
+        (g.0, g.1, g.2, carried m count' g.3 (λ name. refl) (omega arith) (λ printed shown. front_written before written after pending printed shown grows))
+
+    pub front_was_cut : (written after : Option (List ℕ)) (pending : List ℕ) → RunsSoFar script held holds count count' (PendsFront before written pending) → GrowsByFront written after pending → RunsSoFar script held holds count count' (GrowsByFront before after)
+    front_was_cut written after pending r cut m told =
+        let g = r m told in
+        (g.0, g.1, g.2, carried m count' g.3 (λ name. refl) (omega arith) (λ printed shown. front_written_cut before written after pending printed shown cut))
+
+-- a blank line asks nothing of the keeper and prints nothing
+pub takes_blank : (world : State SeenStore) (bytes : List ℕ) (read : Option Line) (holds : Stores → Type 0) (count : ℕ) (before : Option (List ℕ)) (pending : List ℕ) → ReadsLine bytes (Ok read) → read ≡ None
+    → Takes (line_calls as_kept world bytes) world holds holds count count (λ text. Pends before before pending (pending ++ text))
+takes_blank world bytes read holds count before pending h none m told =
+    let blank : is_blank bytes ≡ true = subst (λ (r : Option Line). ReadsLine bytes (Ok r)) none h in (
+      m,
+      told,
+      [],
+      [],
+      subst (λ (calls : Calls (Stepped SeenStore)). Follows calls m [] (ends_with world []) m) (machine.calls_of_blank world bytes blank) (refl, refl, λ name. refl),
+      omega arith,
+      pends_all before pending (pending ++ []) (sym (append-nil pending)),
+    )

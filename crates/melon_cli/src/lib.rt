@@ -1,6 +1,8 @@
 //! The top calls: words in, a script through the machine, and how it ended.
 #![tactic(auto)]
 
+mod lines;
+mod pending;
 pub mod run;
 pub mod status;
 

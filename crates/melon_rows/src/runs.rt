@@ -67,12 +67,10 @@ fn scripts_print_their_text(rt: HostRuntime) -> Result<(), Fail> {
 fn the_first_line_outside_the_grammar_ends_the_run(rt: HostRuntime) -> Result<(), Fail> {
     let bad_lines = [
         r#"{"do":"fly"}"#,
-        r#"{"do":"fetch","app":"B","table":"posts","query":{}}"#,
-        r#"{"do":"fetch","app":"A","table":"users","query":{}}"#,
-        r#"{"do":"fetch","app":"A","table":"posts","query":{"take":1}}"#,
-        r#"{"do":"write","app":"A","ops":[{"create":"posts","id":"a b","set":{}}]}"#,
-        r#"{"do":"write","app":"A","ops":[{"create":"posts","id":"p1","set":{"text":"x"}}]}"#,
-        r#"{"do":"write","app":"A","ops":[{"create":"posts","id":"p1","set":{}},{"create":"posts","id":"p1","set":{}}]}"#,
+        r#"{"do":"fetch","app":"A","table":"posts"}"#,
+        r#"{"do":"close","app":"A","table":"posts"}"#,
+        r#"{"do":"write","app":"A"}"#,
+        "[]",
         "\r\r",
     ];
     for bad in bad_lines {
@@ -107,6 +105,7 @@ fn a_script_has_at_most_16_mebibytes(rt: HostRuntime) -> Result<(), Fail> {
             room: 16,
             read_fails: &[],
             write_fails: &[],
+            keeper_fails: &[],
         };
         let (ended, text) = ends(rt.alloc(), &["run"], bytes, &wide)?;
         assert_eq!(rt; ended, status);
@@ -123,24 +122,28 @@ fn a_failing_source_or_sink_is_told(rt: HostRuntime) -> Result<(), Fail> {
         room: 1000,
         read_fails: &[1],
         write_fails: &[],
+        keeper_fails: &[],
     };
     let later_read = Outside {
         most: 7,
         room: 1000,
         read_fails: &[9],
         write_fails: &[],
+        keeper_fails: &[],
     };
     let later_write = Outside {
         most: 7,
         room: 1000,
         read_fails: &[],
         write_fails: &[3],
+        keeper_fails: &[],
     };
     let no_room = Outside {
         most: 7,
         room: 20,
         read_fails: &[],
         write_fails: &[],
+        keeper_fails: &[],
     };
     expect(&rt, &lines, &first_read, Status::ReadFault, "")?;
     expect(&rt, &lines, &later_read, Status::ReadFault, "")?;
@@ -157,5 +160,264 @@ fn a_failing_source_or_sink_is_told(rt: HostRuntime) -> Result<(), Fail> {
         &no_room,
         Status::WriteFault,
         "open A rows 0 last 0",
+    )
+}
+
+const CLOSED: &str = r#"{"do":"close","app":"A"}"#;
+
+const FIRST_CREATED: &str =
+    r#"{"do":"write","app":"A","ops":[{"create":"posts","id":"p1","set":{"title":"a"}}]}"#;
+
+#[test]
+fn refusals_are_printed_and_the_run_goes_on(rt: HostRuntime) -> Result<(), Fail> {
+    for (line, text) in [
+        (OPENED, "refused app 1 \"A\"\n"),
+        (r#"{"do":"close","app":"B"}"#, "refused app 2 \"B\"\n"),
+        (
+            r#"{"do":"open","app":"a b","schema":null}"#,
+            "refused app 4 \"a b\"\n",
+        ),
+        (
+            r#"{"do":"open","app":"B","schema":{}}"#,
+            "refused schema 1\n",
+        ),
+        (
+            r#"{"do":"fetch","app":"A","table":"users","query":{}}"#,
+            "refused table 1 \"users\"\n",
+        ),
+        (r#"{"do":"write","app":"A","ops":{}}"#, "refused ops 1 0\n"),
+        (
+            r#"{"do":"write","app":"A","ops":[{"create":"posts","id":"p1","set":{}},{"update":"posts","id":"p9","set":{"title":"a"}}]}"#,
+            "refused batch 6 2 \"posts\" \"p9\"\n",
+        ),
+        (
+            r#"{"do":"write","app":"A","ops":[{"create":"posts","id":"p2","set":{"score":9007199254740992}}]}"#,
+            "refused ops 2 1\n",
+        ),
+        (
+            r#"{"do":"write","app":"A","ops":[{"create":"posts","id":"p1","set":{"text":"x"}}]}"#,
+            "refused batch 2 1 \"posts\" \"p1\" \"text\"\n",
+        ),
+    ] {
+        let whole = format!(in rt.alloc(); "open A rows 0 last 0\n{text}fetch A []\n")?;
+        expect(
+            &rt,
+            &[OPENED, line, FETCHED],
+            &CALM,
+            Status::Done,
+            whole.as_str(),
+        )?;
+    }
+    Ok(())
+}
+
+#[test]
+fn rows_are_kept_when_an_app_is_closed(rt: HostRuntime) -> Result<(), Fail> {
+    expect(
+        &rt,
+        &[OPENED, FIRST_CREATED, CLOSED, OPENED],
+        &CALM,
+        Status::Done,
+        "open A rows 0 last 0\nwrite A at 1\nclose A\nopen A rows 1 last 0\n",
+    )?;
+    expect(
+        &rt,
+        &[
+            OPENED,
+            FIRST_CREATED,
+            r#"{"do":"write","app":"A","ops":[{"update":"posts","id":"p1","set":{"score":1,"body":"b"}}]}"#,
+            r#"{"do":"write","app":"A","ops":[{"delete":"posts","id":"p1"}]}"#,
+            r#"{"do":"rows","app":"A","table":"posts"}"#,
+            FETCHED,
+        ],
+        &CALM,
+        Status::Done,
+        "open A rows 0 last 0\nwrite A at 1\nwrite A at 2\nwrite A at 3\nrows A posts [{\"_changed\":\"body,score\",\"_status\":\"deleted\",\"body\":\"b\",\"id\":\"p1\",\"score\":1,\"title\":\"a\"}]\nfetch A []\n",
+    )
+}
+
+#[test]
+fn a_failing_keeper_changes_nothing(rt: HostRuntime) -> Result<(), Fail> {
+    let third = Outside {
+        keeper_fails: &[3],
+        ..CALM
+    };
+    let first = Outside {
+        keeper_fails: &[1],
+        ..CALM
+    };
+    expect(
+        &rt,
+        &[OPENED, FIRST_CREATED, FIRST_CREATED],
+        &third,
+        Status::Done,
+        "open A rows 0 last 0\nrefused keeper 1\nwrite A at 1\n",
+    )?;
+    expect(
+        &rt,
+        &[OPENED, FETCHED, OPENED],
+        &first,
+        Status::Done,
+        "refused keeper 1\nrefused app 2 \"A\"\nopen A rows 0 last 0\n",
+    )
+}
+
+#[test]
+fn a_journal_is_full(rt: HostRuntime) -> Result<(), Fail> {
+    let body = vec![in rt.alloc(); b'x'; 65536]?;
+    let body = String::from_utf8(body)?;
+    let created = format!(in rt.alloc();
+        "{{\"do\":\"write\",\"app\":\"A\",\"ops\":[{{\"create\":\"posts\",\"id\":\"p1\",\"set\":{{\"body\":\"{body}\"}}}}]}}"
+    )?;
+    let updated =
+        r#"{"do":"write","app":"A","ops":[{"update":"posts","id":"p1","set":{"title":""}}]}"#;
+    let mut lines = Vec::new(rt.alloc());
+    lines.push(OPENED)?;
+    lines.push(created.as_str())?;
+    for _ in 0..1023 {
+        lines.push(updated)?;
+    }
+    let bytes = script(rt.alloc(), lines.as_slice())?;
+    let (ended, written) = ends(rt.alloc(), &["run"], bytes, &CALM)?;
+    assert_eq!(rt; ended, Status::Done);
+    assert!(rt;
+        written
+            .as_str()
+            .ends_with("write A at 1023\nrefused full 2 134313905\n")
+    );
+    Ok(())
+}
+
+/// A batch on app A.
+fn batch(alloc: Global, ops: &str) -> Result<String, Fail> {
+    Ok(format!(in alloc; "{{\"do\":\"write\",\"app\":\"A\",\"ops\":[{ops}]}}")?)
+}
+
+/// A query over the posts of app A.
+fn asked(alloc: Global, query: &str) -> Result<String, Fail> {
+    Ok(format!(in alloc;
+        "{{\"do\":\"fetch\",\"app\":\"A\",\"table\":\"posts\",\"query\":{query}}}"
+    )?)
+}
+
+/// Opens A, makes the batch, and asks each query: what is printed of it.
+fn expect_answers<R: Abort + AllocGlobal>(
+    rt: &R,
+    ops: &str,
+    asks: &[(&str, &str)],
+) -> Result<(), Fail> {
+    let made = batch(rt.alloc(), ops)?;
+    for (query, answer) in asks {
+        let fetched = asked(rt.alloc(), *query)?;
+        let text = format!(in rt.alloc(); "open A rows 0 last 0\nwrite A at 1\n{answer}\n")?;
+        let lines = [OPENED, made.as_str(), fetched.as_str()];
+        expect(rt, &lines, &CALM, Status::Done, text.as_str())?;
+    }
+    Ok(())
+}
+
+#[test]
+fn comparisons_meet_null(rt: HostRuntime) -> Result<(), Fail> {
+    expect_answers(
+        &rt,
+        r#"{"create":"posts","id":"a","set":{}},{"create":"posts","id":"b","set":{"score":1}},{"create":"posts","id":"c","set":{"score":5}}"#,
+        &[
+            (
+                r#"{"where":[{"column":"score","op":"lt","value":3}]}"#,
+                r#"fetch A ["b"]"#,
+            ),
+            (
+                r#"{"where":[{"column":"score","op":"notIn","value":[1]}]}"#,
+                r#"fetch A ["c"]"#,
+            ),
+            (
+                r#"{"where":[{"column":"score","op":"notEq","value":1}]}"#,
+                r#"fetch A ["a","c"]"#,
+            ),
+            (
+                r#"{"where":[{"column":"score","op":"weakGt","value":null}]}"#,
+                r#"fetch A ["b","c"]"#,
+            ),
+            (
+                r#"{"where":[{"column":"score","op":"oneOf","value":[null]}]}"#,
+                "refused query 5",
+            ),
+        ],
+    )
+}
+
+#[test]
+fn all_ons_of_a_table_speak_of_one_record(rt: HostRuntime) -> Result<(), Fail> {
+    expect_answers(
+        &rt,
+        r#"{"create":"posts","id":"p1","set":{}},{"create":"comments","id":"c1","set":{"post_id":"p1","text":"x","likes":1}},{"create":"comments","id":"c2","set":{"post_id":"p1","text":"y","likes":5}}"#,
+        &[
+            (
+                r#"{"where":[{"on":"comments","is":[{"column":"text","op":"eq","value":"x"}]},{"on":"comments","is":[{"column":"likes","op":"eq","value":5}]}]}"#,
+                "fetch A []",
+            ),
+            (
+                r#"{"where":[{"on":"comments","is":[{"column":"text","op":"eq","value":"y"}]},{"on":"comments","is":[{"column":"likes","op":"eq","value":5}]}]}"#,
+                r#"fetch A ["p1"]"#,
+            ),
+        ],
+    )
+}
+
+const ON_OR_TITLE: &str =
+    r#"{"joins":["comments"],"where":[{"or":[{"on":"comments","is":[{"column":"likes","op":"eq","value":1}]},{"column":"title","op":"eq","value":"t2"}]}]}"#;
+
+const JOINED: &str =
+    r#"{"create":"posts","id":"p1","set":{"title":"t1"}},{"create":"posts","id":"p2","set":{"title":"t2"}},{"create":"comments","id":"c1","set":{"post_id":"p1","likes":1}}"#;
+
+#[test]
+fn a_joined_record_is_visible(rt: HostRuntime) -> Result<(), Fail> {
+    expect_answers(
+        &rt,
+        JOINED,
+        &[
+            (ON_OR_TITLE, r#"fetch A ["p1","p2"]"#),
+            (
+                r#"{"where":[{"or":[{"on":"comments","is":[{"column":"likes","op":"eq","value":1}]},{"column":"title","op":"eq","value":"t2"}]}]}"#,
+                "refused query 7",
+            ),
+        ],
+    )?;
+    let made = batch(rt.alloc(), JOINED)?;
+    let deleted = batch(rt.alloc(), r#"{"delete":"comments","id":"c1"}"#)?;
+    let fetched = asked(rt.alloc(), ON_OR_TITLE)?;
+    let lines = [OPENED, made.as_str(), deleted.as_str(), fetched.as_str()];
+    expect(
+        &rt,
+        &lines,
+        &CALM,
+        Status::Done,
+        "open A rows 0 last 0\nwrite A at 1\nwrite A at 2\nfetch A [\"p2\"]\n",
+    )
+}
+
+#[test]
+fn answers_are_sorted_and_cut(rt: HostRuntime) -> Result<(), Fail> {
+    expect_answers(
+        &rt,
+        r#"{"create":"posts","id":"p1","set":{"score":2}},{"create":"posts","id":"p2","set":{"score":1}},{"create":"posts","id":"p3","set":{"score":2}},{"create":"posts","id":"p4","set":{}}"#,
+        &[
+            (
+                r#"{"sortBy":[["score","desc"]],"take":2,"skip":1}"#,
+                r#"fetch A ["p3","p2"]"#,
+            ),
+            (
+                r#"{"sortBy":[["score","desc"]],"take":2,"skip":3}"#,
+                r#"fetch A ["p4"]"#,
+            ),
+            (
+                r#"{"sortBy":[["score","desc"]],"take":2,"skip":9}"#,
+                "fetch A []",
+            ),
+            (
+                r#"{"sortBy":[["score","desc"]],"skip":1}"#,
+                "refused query 8",
+            ),
+        ],
     )
 }

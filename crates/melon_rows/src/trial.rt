@@ -1,6 +1,6 @@
-//! One run over a source and a sink in memory.
+//! One run over a source, a sink and a keeper in memory.
 use melon_cli::{Status, melon_run};
-use melon_outside::{MemorySink, MemorySource};
+use melon_outside::{MemoryKeeper, MemorySink, MemorySource};
 use melon_schema::List;
 use std::alloc::Global;
 use std::test::Fail;
@@ -12,6 +12,7 @@ pub struct Outside<'a> {
     pub room: usize,
     pub read_fails: &'a [u64],
     pub write_fails: &'a [u64],
+    pub keeper_fails: &'a [u64],
 }
 
 /// An outside without a fault.
@@ -20,6 +21,7 @@ pub const CALM: Outside<'static> = Outside {
     room: 100000,
     read_fails: &[],
     write_fails: &[],
+    keeper_fails: &[],
 };
 
 fn copied(alloc: Global, numbers: &[u64]) -> Result<List<u64>, Fail> {
@@ -51,7 +53,15 @@ pub fn ends(
         outside.most,
         copied(alloc, outside.write_fails)?,
     )?;
-    let status = melon_run(alloc, owned.as_slice(), &mut input, &mut output);
+    let fails = copied(alloc, outside.keeper_fails)?;
+    let mut keeper = MemoryKeeper::new(alloc, List::new(alloc), fails);
+    let status = melon_run(
+        alloc,
+        owned.as_slice(),
+        &mut input,
+        &mut output,
+        &mut keeper,
+    );
     let text = String::from_utf8(output.bytes().to_vec(alloc)?)?;
     Ok((status, text))
 }

@@ -1,3 +1,4 @@
-pub mod Ascending
-pub mod Splitting
-pub mod Texts
+pub mod Dropped
+pub mod Meeting
+pub mod Opened
+pub mod Written

@@ -1,7 +1,2 @@
-pub mod Batch
-pub mod Lines
-pub mod Machine
-pub mod Printed
-pub mod Script
-pub mod Steps
-pub mod Tables
+pub mod Handled
+pub mod Inside

@@ -1,14 +1,10 @@
-//! The machine that runs scripts: lines, an open app with its rows, and what is printed.
+//! The machine that runs scripts: its open apps, and a handler for each form of line.
 #![tactic(auto)]
 
-pub mod batch;
-pub mod item;
-pub mod line;
-pub mod lines;
-pub mod rows;
+pub mod apps;
+pub mod reading;
+pub mod refusals;
 pub mod world;
+pub mod writing;
 
-pub use item::Item;
-pub use line::{Create, Line};
-pub use lines::next_line;
 pub use world::World;

@@ -1,0 +1,106 @@
+-- Calls that a keeper met.
+use Rattle.std.proofs.Common.{◌≡◌, ◌≢◌, ℕ, zero, suc, ◌+◌, ◌≤◌, ◌<◌, List, [], ◌∷◌, ◌++◌, Bool, true, false, length, set, get_or, refl, ap, sym, ◌∙◌, subst, arith}
+use Rattle.std.specs.Prelude.{Option, Some, None, Result, Ok, Err, slice_get, IfOk, OnErr, position, bytes_eq}
+use Rattle.std.proofs.lemmas.List.{set-get_or}
+use Rattle.std.proofs.lemmas.List.Quantifiers.{position-Some}
+use Rattle.melon_outside.specs.Causes.{Rose}
+use Rattle.melon_outside.specs.Keeping.{Stores, AreSame}
+use Rattle.melon_outside.specs.declared.kept.KeptBatch.{KeptBatch}
+use Rattle.melon_board.specs.Carried.{IsDone, HoldsAsBefore}
+use Rattle.melon_board.specs.Stores.{SeenStore}
+use Rattle.melon_script.specs.declared.item.Item.{Item}
+use Rattle.melon_machine.specs.Calls.{Calls, Done, Load, Commit, asks, with_end, failures, RoseBy, after_batch, Follows, Meets}
+use Rattle.melon_machine.specs.Refusals.{is_of_keeper, app_refusal}
+use Rattle.melon_machine.specs.State.{as_kept}
+use Rattle.melon_machine.specs.Step.{Told, told, Stepped, stepped, put_back, on_app, on_place, on_found, place_of}
+use Rattle.melon_machine.proofs.Followed.{changes_same, rose_none}
+use Rattle.melon_world.specs.Handled.{IsHandled}
+
+slice_get_or : {X : Type 0} (xs : List X) (i : ℕ) (d : X) → i < length xs → slice_get xs i ≡ Some (get_or xs i d)
+slice_get_or [] i d h = absurd (omega (arith, h))
+slice_get_or (x ∷ xs) zero d h = refl
+slice_get_or (x ∷ xs) (suc i) d h = slice_get_or xs i d (omega (arith, h))
+
+-- a batch that was done, where there is one
+pub asks_done : {X : Type 0} (name : List ℕ) (batch : Option KeptBatch) (done failed : X) (was m : Stores) → IsDone batch name was m
+    → (used : List Bool) × Follows (asks name batch done failed) was used done m × (failures used ≡ 0)
+asks_done name None done failed was m h = ([], (refl, refl, h), refl)
+asks_done name (Some batch) done failed was m h = (true ∷ [], (refl, refl, changes_same name batch was m h), refl)
+
+-- a batch that the keeper failed to do
+pub asks_failed : {X : Type 0} (name : List ℕ) (batch : KeptBatch) (done failed : X) (was m : Stores) → AreSame m was → Follows (asks name (Some batch) done failed) was (false ∷ []) failed m
+asks_failed name batch done failed was m h = (refl, refl, h)
+
+module _ (before now : Stores → Type 0) (count count' : ℕ) where
+  -- nothing was asked
+  pub met_quietly : {X : Type 0} (x : X) → HoldsAsBefore before now → count ≤ count' → Meets (Done x) before now count count' x
+  met_quietly x held later m told = (let h = held m told in (h.0, h.1, [], (refl, refl, h.2), rose_none count count' later))
+
+  -- calls with another value at their end
+  follows_at_end : {X Y : Type 0} (f : X → Y) (calls : Calls X) (was : Stores) (used : List Bool) (x : X) (m : Stores) → Follows calls was used x m → Follows (with_end f calls) was used (f x) m
+  follows_at_end f (Done y) was used x m h = (h.0, ap f h.1, h.2)
+  follows_at_end f (Load name does) was [] x m h = absurd h
+  follows_at_end f (Load name does) was (true ∷ used) x m h = follows_at_end f (does (Some (was name))) was used x m h
+  follows_at_end f (Load name does) was (false ∷ used) x m h = follows_at_end f (does None) was used x m h
+  follows_at_end f (Commit name batch does) was [] x m h = absurd h
+  follows_at_end f (Commit name batch does) was (true ∷ used) x m h = follows_at_end f (does true) (after_batch name batch was) used x m h
+  follows_at_end f (Commit name batch does) was (false ∷ used) x m h = follows_at_end f (does false) was used x m h
+
+  pub met_at_end : {X Y : Type 0} (f : X → Y) (calls : Calls X) (x : X) → Meets calls before now count count' x → Meets (with_end f calls) before now count count' (f x)
+  met_at_end f calls x h m told = (let k = h m told in (k.0, k.1, k.2, follows_at_end f calls k.0 k.2 x m k.3, k.4))
+
+-- ---- an open app
+
+-- the app that stands at the place of a name
+pub app_found : (apps : List SeenStore) (name : List ℕ) (does : SeenStore → Calls (Told SeenStore)) (place : ℕ) (store : SeenStore) → Some place ≡ place_of as_kept name apps → store ≡ get_or apps place store
+    → on_app as_kept apps name does ≡ with_end (put_back apps place) (does store)
+app_found apps name does place store at here =
+    ap (on_place as_kept apps name does) (sym at)
+    ∙ ap (on_found as_kept apps name does place) (slice_get_or apps place store (position-Some (λ (s : SeenStore). bytes_eq s.name name) apps place store (sym at)).0 ∙ ap Some (sym here))
+
+pub app_missing : (apps : List SeenStore) (name : List ℕ) (does : SeenStore → Calls (Told SeenStore)) → None ≡ place_of as_kept name apps → on_app as_kept apps name does ≡ Done (stepped apps (app_refusal 2 name))
+app_missing apps name does at = ap (on_place as_kept apps name does) (sym at)
+
+pub put_same : (apps : List SeenStore) (place : ℕ) (store left : SeenStore) → store ≡ get_or apps place store → left ≡ store → set apps place left ≡ apps
+put_same apps place store left here same = ap (set apps place) (same ∙ here) ∙ set-get_or apps place store
+
+module _ (before now : Stores → Type 0) (count count' : ℕ) where
+  pub on_app_handled : {E : Type 0} (apps : List SeenStore) (name : List ℕ) (does : SeenStore → Calls (Told SeenStore)) (place : ℕ) (store left : SeenStore) (result : Result Item E)
+      → Some place ≡ place_of as_kept name apps → store ≡ get_or apps place store
+      → IsHandled (does store) (told left) is_of_keeper before now count count' store left result
+      → IsHandled (on_app as_kept apps name does) (stepped (set apps place left)) is_of_keeper before now count count' apps (set apps place left) result
+  on_app_handled apps name does place store left (Ok item) at here h = record {
+    met = subst (λ (calls : Calls (Stepped SeenStore)). Meets calls before now count count' (stepped (set apps place left) item))
+        (sym (app_found apps name does place store at here))
+        (met_at_end before now count count' (put_back apps place) (does store) (told left item) h.met);
+    same = tt;
+    held = tt;
+    later = h.later;
+    cause = h.cause;
+  }
+  on_app_handled apps name does place store left (Err e) at here h = record {
+    met = tt;
+    same = put_same apps place store left here h.same;
+    held = h.held;
+    later = h.later;
+    cause = tt;
+  }
+
+-- a handler that asks nothing of the keeper
+pub handled_quietly : {E : Type 0} (holds : Stores → Type 0) (count : ℕ) (calls : Calls (Stepped SeenStore)) (apps left : List SeenStore) (result : Result Item E)
+    → IfOk result (λ item. calls ≡ Done (stepped left item)) → IfOk result (λ item. is_of_keeper item ≡ false) → OnErr result (left ≡ apps)
+    → IsHandled calls (stepped left) is_of_keeper holds holds count count apps left result
+handled_quietly holds count calls apps left (Ok item) is quiet same = record {
+  met = subst (λ (c : Calls (Stepped SeenStore)). Meets c holds holds count count (stepped left item)) (sym is) (met_quietly holds holds count count (stepped left item) (λ m told. (m, told, λ name. refl)) (omega arith));
+  same = tt;
+  held = tt;
+  later = omega arith;
+  cause = λ told. absurd (grind (arith, quiet, told));
+}
+handled_quietly holds count calls apps left (Err e) is quiet same = record {
+  met = tt;
+  same = same;
+  held = λ m told. (m, told, λ name. refl);
+  later = omega arith;
+  cause = tt;
+}
