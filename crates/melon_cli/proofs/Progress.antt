@@ -4,7 +4,6 @@ use Rattle.std.specs.Prelude.{Option, Some, None, Result, Ok}
 use Rattle.melon_outside.specs.Keeping.{Stores, AreSame}
 use Rattle.melon_outside.specs.Moves.{Grows, GrowsByFront}
 use Rattle.melon_board.specs.Carried.{HoldsAsBefore}
-use Rattle.melon_board.specs.Stores.{SeenStore}
 use Rattle.melon_script.specs.SeenLine.{SeenLine}
 use Rattle.melon_script.specs.declared.line.Line.{Line}
 use Rattle.melon_script.specs.Forms.{is_blank}
@@ -13,7 +12,7 @@ use Rattle.melon_script.specs.Lines.{lines_of}
 use Rattle.melon_script.specs.Script.{forms_in, forms_of, bad_from, bad_line, IsLine, IsOutside}
 use Rattle.melon_script.specs.Printed.{answer_text}
 use Rattle.melon_machine.specs.Calls.{Calls, failures, RoseBy, Follows}
-use Rattle.melon_machine.specs.State.{App, State, stores_of, as_kept, none_open}
+use Rattle.melon_machine.specs.State.{App, KeptApp, State, kept_of, as_kept, none_open}
 use Rattle.melon_machine.specs.Step.{Stepped, ends_with}
 use Rattle.melon_machine.specs.Run.{Ran, run, line_calls, ComesTo}
 use Rattle.melon_machine.proofs.Followed.{same_is, rose_more}
@@ -23,11 +22,11 @@ use Rattle.melon_cli.specs.Runs.{RunsWhole, RanSoFar, RunsSoFar, RunsTo, Pends, 
 use Rattle.melon_cli.proofs.Fronts.{pends_all, pends_more, pends_written, pends_cut, pends_front, front_written, written_cut, front_written_cut}
 
 -- The run has come to these lines, and the world has the stores of its apps.
-pub record At (script : List ℕ) (was m : Stores) (count count' : ℕ) (world : State SeenStore) (rest : List SeenLine) (Shows : List ℕ → Type 0) : Type 0 where
+pub record At (script : List ℕ) (was m : Stores) (count count' : ℕ) (world : State KeptApp) (rest : List SeenLine) (Shows : List ℕ → Type 0) : Type 0 where
   pub so_far : RanSoFar script was m count count' rest Shows
-  pub same : stores_of so_far.now ≡ world
+  pub same : kept_of so_far.now ≡ world
 
-pub record Progress (script : List ℕ) (held holds : Stores → Type 0) (count count' : ℕ) (before after : Option (List ℕ)) (pending : List ℕ) (world : State SeenStore) (rest : List ℕ) (number : ℕ) : Type 0 where
+pub record Progress (script : List ℕ) (held holds : Stores → Type 0) (count count' : ℕ) (before after : Option (List ℕ)) (pending : List ℕ) (world : State KeptApp) (rest : List ℕ) (number : ℕ) : Type 0 where
   pub bad_is : bad_from number (lines_of rest) ≡ bad_line script
   pub goes : (m : Stores) → holds m → (was : Stores) × held was × At script was m count count' world (forms_of (lines_of rest)) (Pends before after pending)
 
@@ -44,7 +43,7 @@ carried {script} {was} {mid} m {count} {between} count' {rest} {P} {Q} r same la
 }
 
 module _ (script : List ℕ) (held : Stores → Type 0) (count : ℕ) (before : Option (List ℕ)) where
-  pub at_start : (pending : List ℕ) (world : State SeenStore) → pending ≡ [] → world ≡ none_open → Progress script held held count count before before pending world script 0
+  pub at_start : (pending : List ℕ) (world : State KeptApp) → pending ≡ [] → world ≡ none_open → Progress script held held count count before before pending world script 0
   unfolding bad_line forms_in
   at_start pending world none new = record {
     bad_is = refl;
@@ -65,10 +64,10 @@ module _ (script : List ℕ) (held : Stores → Type 0) (count : ℕ) (before : 
     );
   }
 
-  module _ (mid : Stores → Type 0) (between : ℕ) (written : Option (List ℕ)) (pending : List ℕ) (world : State SeenStore) (rest : List ℕ) (number : ℕ) (p : Progress script held mid count between before written pending world rest number)
+  module _ (mid : Stores → Type 0) (between : ℕ) (written : Option (List ℕ)) (pending : List ℕ) (world : State KeptApp) (rest : List ℕ) (number : ℕ) (p : Progress script held mid count between before written pending world rest number)
       (bytes later : List ℕ) (is : lines_of rest ≡ bytes ∷ lines_of later) (holds : Stores → Type 0) (count' : ℕ) where
     -- one line more, however its text is shown
-    line_more : (world' : State SeenStore) (Shows Left : List ℕ → Type 0) → IsLine bytes → Takes (line_calls as_kept world bytes) world' mid holds between count' Shows
+    line_more : (world' : State KeptApp) (Shows Left : List ℕ → Type 0) → IsLine bytes → Takes (line_calls as_kept world bytes) world' mid holds between count' Shows
         → ((printed text : List ℕ) → Pends before written pending printed → Shows text → Left (printed ++ text))
         → (m : Stores) → holds m → (was : Stores) × held was × At script was m count count' world' (forms_of (lines_of later)) Left
     line_more world' Shows Left line takes more m told =
@@ -77,7 +76,7 @@ module _ (script : List ℕ) (held : Stores → Type 0) (count : ℕ) (before : 
         let at = g.2.so_far in
         let o = machine.one_line_more script g.0 at.outcomes at.printed at.now t.0 bytes (lines_of later) t.2 world' t.3 m line
         (subst (λ (ls : List (List ℕ)). ComesTo script g.0 at.outcomes at.printed at.now t.0 (forms_of ls)) is at.comes)
-        (subst (λ (w : State SeenStore). Follows (line_calls as_kept w bytes) t.0 t.2 (ends_with world' t.3) m) (sym g.2.same) t.4) in (
+        (subst (λ (w : State KeptApp). Follows (line_calls as_kept w bytes) t.0 t.2 (ends_with world' t.3) m) (sym g.2.same) t.4) in (
           g.0,
           g.1,
           record {
@@ -93,7 +92,7 @@ module _ (script : List ℕ) (held : Stores → Type 0) (count : ℕ) (before : 
           },
         )
 
-    pub after_line : (world' : State SeenStore) (after : Option (List ℕ)) (pending' : List ℕ) → IsLine bytes
+    pub after_line : (world' : State KeptApp) (after : Option (List ℕ)) (pending' : List ℕ) → IsLine bytes
         → Takes (line_calls as_kept world bytes) world' mid holds between count' (λ text. Pends written after pending' (pending ++ text)) → Progress script held holds count count' before after pending' world' later (number + 1)
     after_line world' after pending' line takes = record {
       bad_is = sym (ap (bad_from number) is ∙ machine.bad_later number bytes (lines_of later) line) ∙ p.bad_is;
@@ -142,7 +141,7 @@ module _ (script : List ℕ) (held : Stores → Type 0) (count : ℕ) (before : 
             (subst (λ (w : List ℕ). PendsFront before written pending w) (sym e) (pends_front before written pending printed later shown)))
 
     -- memory ran out before the text of the line was added
-    pub stopped_after : (world' : State SeenStore) (after : Option (List ℕ)) (pending' : List ℕ) → IsUntouched written after pending pending' → IsLine bytes
+    pub stopped_after : (world' : State KeptApp) (after : Option (List ℕ)) (pending' : List ℕ) → IsUntouched written after pending pending' → IsLine bytes
         → Takes (line_calls as_kept world bytes) world' mid holds between count' (λ _. Unit {0}) → RunsSoFar script held holds count count' (PendsFront before after pending')
     stopped_after world' after pending' u line takes m told =
         let l = line_more world' (λ _. Unit {0}) (PendsFront before after pending') line takes
@@ -150,13 +149,13 @@ module _ (script : List ℕ) (held : Stores → Type 0) (count : ℕ) (before : 
         (subst (λ (q : List ℕ). PendsFront before written q (printed ++ text)) (sym u.1) (pends_front before written pending printed text shown))) m told in
         (l.0, l.1, forms_of (lines_of later), l.2.so_far)
 
-    pub stopped : (world' : State SeenStore) (after : Option (List ℕ)) (pending' : List ℕ) → IsUntouched written after pending pending' → between ≤ count'
+    pub stopped : (world' : State KeptApp) (after : Option (List ℕ)) (pending' : List ℕ) → IsUntouched written after pending pending' → between ≤ count'
         → HoldsAsBefore mid holds ⊎ (IsLine bytes × Takes (line_calls as_kept world bytes) world' mid holds between count' (λ _. Unit {0})) → RunsSoFar script held holds count count' (PendsFront before after pending')
     stopped world' after pending' u rose (inl as_before) = stopped_before after pending' u as_before rose
     stopped world' after pending' u rose (inr taken) = stopped_after world' after pending' u taken.0 taken.1
 
     -- the output failed
-    pub cut_short : (world' : State SeenStore) (after : Option (List ℕ)) → IsLine bytes
+    pub cut_short : (world' : State KeptApp) (after : Option (List ℕ)) → IsLine bytes
         → Takes (line_calls as_kept world bytes) world' mid holds between count' (λ text. GrowsByFront written after (pending ++ text)) → RunsSoFar script held holds count count' (GrowsByFront before after)
     cut_short world' after line takes m told =
         let l = line_more world' (λ text. GrowsByFront written after (pending ++ text)) (GrowsByFront before after) line takes
@@ -165,7 +164,7 @@ module _ (script : List ℕ) (held : Stores → Type 0) (count : ℕ) (before : 
 
   module _ (holds : Stores → Type 0) (count' : ℕ) where
     -- nothing is left
-    pub at_end : (after : Option (List ℕ)) (pending : List ℕ) (world : State SeenStore) (rest : List ℕ) (number : ℕ) → Progress script held holds count count' before after pending world rest number → length rest ≡ 0
+    pub at_end : (after : Option (List ℕ)) (pending : List ℕ) (world : State KeptApp) (rest : List ℕ) (number : ℕ) → Progress script held holds count count' before after pending world rest number → length rest ≡ 0
         → (bad_line script ≡ None) × RunsTo script held holds count count' [] (Pends before after pending)
     at_end after pending world rest number p none =
         let is : rest ≡ [] = empty_from rest none in (
@@ -212,7 +211,7 @@ module _ (script : List ℕ) (held : Stores → Type 0) (count : ℕ) (before : 
         (g.0, g.1, g.2, carried m count' g.3 (λ name. refl) (omega arith) (λ printed shown. front_written_cut before written after pending printed shown cut))
 
 -- a blank line asks nothing of the keeper and prints nothing
-pub takes_blank : (world : State SeenStore) (bytes : List ℕ) (read : Option Line) (holds : Stores → Type 0) (count : ℕ) (before : Option (List ℕ)) (pending : List ℕ) → ReadsLine bytes (Ok read) → read ≡ None
+pub takes_blank : (world : State KeptApp) (bytes : List ℕ) (read : Option Line) (holds : Stores → Type 0) (count : ℕ) (before : Option (List ℕ)) (pending : List ℕ) → ReadsLine bytes (Ok read) → read ≡ None
     → Takes (line_calls as_kept world bytes) world holds holds count count (λ text. Pends before before pending (pending ++ text))
 takes_blank world bytes read holds count before pending h none m told =
     let blank : is_blank bytes ≡ true = subst (λ (r : Option Line). ReadsLine bytes (Ok r)) none h in (
@@ -220,7 +219,7 @@ takes_blank world bytes read holds count before pending h none m told =
       told,
       [],
       [],
-      subst (λ (calls : Calls (Stepped SeenStore)). Follows calls m [] (ends_with world []) m) (machine.calls_of_blank world bytes blank) (refl, refl, λ name. refl),
+      subst (λ (calls : Calls (Stepped KeptApp)). Follows calls m [] (ends_with world []) m) (machine.calls_of_blank world bytes blank) (refl, refl, λ name. refl),
       omega arith,
       pends_all before pending (pending ++ []) (sym (append-nil pending)),
     )

@@ -4,13 +4,12 @@ use Rattle.std.specs.declared.alloc.Global.{Global}
 use Rattle.melon_outside.specs.Keeping.{Stores, AreSame}
 use Rattle.melon_outside.specs.Moves.{Grows, GrowsByFront, IsWhole}
 use Rattle.melon_board.specs.Carried.{HoldsAsBefore}
-use Rattle.melon_board.specs.Stores.{SeenStore}
 use Rattle.melon_script.specs.SeenLine.{SeenLine}
 use Rattle.melon_script.specs.Script.{bad_line, IsLine}
 use Rattle.melon_script.specs.Printed.{answer_text}
 use Rattle.melon_script.specs.declared.item.Item.{Item}
 use Rattle.melon_machine.specs.Calls.{Calls, failures, RoseBy, Follows}
-use Rattle.melon_machine.specs.State.{App, State, as_kept}
+use Rattle.melon_machine.specs.State.{App, KeptApp, State, as_kept}
 use Rattle.melon_machine.specs.Step.{Stepped, ends_with}
 use Rattle.melon_machine.specs.Run.{run, line_calls, ComesTo}
 
@@ -85,7 +84,7 @@ RunsTo script held holds faults_before faults_now rest Shows =
 -- ---- a line
 
 -- The machine made these calls and is left so, and the items are shown so.
-abbrev pub Takes : Calls (Stepped SeenStore) → State SeenStore → (Stores → Type 0) → (Stores → Type 0) → ℕ → ℕ → (List ℕ → Type 0) → Type 0
+abbrev pub Takes : Calls (Stepped KeptApp) → State KeptApp → (Stores → Type 0) → (Stores → Type 0) → ℕ → ℕ → (List ℕ → Type 0) → Type 0
 Takes calls now held holds faults_before faults_now Shows =
     (m : Stores) → holds m → (mid : Stores) × held mid × (used : List Bool) × (items : List Item) × Follows calls mid used (ends_with now items) m × RoseBy (failures used) faults_before faults_now × Shows (answer_text items)
 

@@ -8,7 +8,10 @@ use Rattle.std.proofs.lemmas.Option.{get_or_from_slice_get}
 use Rattle.std.proofs.lemmas.Slice.Eq.{bytes_eq-Decides}
 use Rattle.indexmap.proofs.SetLemmas.{map-remove}
 use Rattle.serde_json.specs.Data.{Data}
-use Rattle.melon_schema.specs.Names.{is_name}
+use Rattle.melon_schema.specs.Names.{is_name, is_id}
+use Rattle.melon_queue.specs.Queues.{entered, nested, quit}
+use Rattle.melon_queue.specs.Seen.{SeenQueue}
+use Rattle.melon_queue.specs.declared.queue.QueueFault.{QueueFault}
 use Rattle.melon_schema.specs.Schema.{schema_of}
 use Rattle.melon_schema.specs.Seen.{SeenSchema}
 use Rattle.melon_schema.specs.declared.schema_fault.SchemaFault.{SchemaFault}
@@ -37,9 +40,9 @@ use Rattle.melon_script.specs.SeenLine.{SeenLine}
 use Rattle.melon_script.specs.Script.{forms_in}
 use Rattle.melon_script.specs.declared.item.Item.{Item}
 use Rattle.melon_machine.specs.Calls.{Calls, Done, Load, Commit, asks, with_end, next, after_next, after_batch, Followed, follow}
-use Rattle.melon_machine.specs.State.{App, State, store_of, opened_as, grown_to, with_history, none_open}
-use Rattle.melon_machine.specs.Step.{Stepped, stepped, Told, told, put_back, place_of, with_opened, opens_by, opens_over, opens_under, open_fault, opens_unless, open_step, closes, close_step, on_found, on_place, on_app, writes_by, writes, write_app, fetched, rows_shown, looks, step}
-use Rattle.melon_machine.specs.Refusals.{keeper_refusal}
+use Rattle.melon_machine.specs.State.{App, State, store_of, opened_as, grown_to, queued_to, with_history, none_open}
+use Rattle.melon_machine.specs.Step.{Stepped, stepped, Told, told, put_back, place_of, with_opened, opens_by, opens_over, opens_under, open_fault, opens_unless, open_step, closes, close_step, on_found, on_place, on_app, writes_by, writes, write_fault, writes_unless, write_app, entered_as, enter_app, nested_as, nest_app, left_as, leave_app, fetched, rows_shown, looks, step}
+use Rattle.melon_machine.specs.Refusals.{keeper_refusal, writer_refusal}
 use Rattle.melon_machine.specs.Run.{Ran, run_from, run}
 use Rattle.melon_machine.specs.Sound.{IsSoundApp, AreSoundApps, IsNotAmong, AreDifferent, names_of, IsSound, RunsAreSound}
 use Rattle.melon_machine.proofs.Grown.{grows_written, none_opened, opened_name}
@@ -260,13 +263,53 @@ module _ (name : List ℕ) (app : App) (kept : Stores) (ordered : (other : List 
   write_stays (Ok ops) outcomes = writes_by_stays ops (write_plan (store_of app) ops) refl outcomes
   write_stays (Err fault) outcomes = stays_so _
 
+  queued_is : (q : SeenQueue) → IsSoundApp (queued_to app q) (kept (store_key app.name))
+  queued_is q = record { formed = h.formed; legal = h.legal; keeps = h.keeps }
+
+  queued_stays : (q : SeenQueue) (item : Item) → Stays app kept (told (queued_to app q) item) kept
+  queued_stays q item = record { name = refl; elsewhere = λ other apart. refl; ordered = ordered; sound = queued_is q }
+
+  unless_stays : (json : Data) (fault : Option Item) (outcomes : List Bool) → Stays app kept (follow (writes_unless with_history name json app fault) kept outcomes).value (follow (writes_unless with_history name json app fault) kept outcomes).kept
+  unless_stays json (Some refusal) outcomes = stays_so refusal
+  unless_stays json None outcomes = write_stays (ops_of json) outcomes
+
+  enter_stays : (writer : List ℕ) → Stays app kept (enter_app with_history name writer app) kept
+  enter_stays writer = by (is_id writer) (entered writer app.queue)
+    where
+      by : (good : Bool) (r : Result (ℕ × SeenQueue) QueueFault) → Stays app kept (if good then entered_as with_history name writer app r else told app (writer_refusal writer)) kept
+      by true (Ok entered) = queued_stays entered.1 _
+      by true (Err fault) = stays_so _
+      by false r = stays_so _
+
+  nest_stays : (writer : List ℕ) → Stays app kept (nest_app with_history name writer app) kept
+  nest_stays writer = by (is_id writer) (nested writer app.queue)
+    where
+      by : (good : Bool) (r : Result (ℕ × SeenQueue) QueueFault) → Stays app kept (if good then nested_as with_history name writer app r else told app (writer_refusal writer)) kept
+      by true (Ok nested) = queued_stays nested.1 _
+      by true (Err fault) = stays_so _
+      by false r = stays_so _
+
+  leave_stays : (writer : List ℕ) → Stays app kept (leave_app with_history name writer app) kept
+  leave_stays writer = by (is_id writer)
+    where
+      by : (good : Bool) → Stays app kept (if good then left_as with_history name writer app (quit writer app.queue) else told app (writer_refusal writer)) kept
+      by true = queued_stays _ _
+      by false = stays_so _
+
 -- ---- a line, and all lines
 
 step_lasts : (m : State App) (line : SeenLine) (kept : Stores) → IsSound m kept → Lasts (step with_history m line) kept
 unfolding step
 step_lasts m (lines.Open name schema) kept h = open_lasts m.apps name schema kept h
 step_lasts m (lines.Close name) kept h = close_lasts m.apps name kept (place_of with_history name m.apps) h
-step_lasts m (lines.Write name ops) kept h = app_lasts m.apps name kept h (write_app with_history name ops) (λ app s. write_stays name app kept h.ordered s (ops_of ops))
+step_lasts m (lines.Enter name writer) kept h =
+    app_lasts m.apps name kept h (λ app. Done (enter_app with_history name writer app)) (λ app s outcomes. enter_stays name app kept h.ordered s writer)
+step_lasts m (lines.Nest name writer) kept h =
+    app_lasts m.apps name kept h (λ app. Done (nest_app with_history name writer app)) (λ app s outcomes. nest_stays name app kept h.ordered s writer)
+step_lasts m (lines.Leave name writer) kept h =
+    app_lasts m.apps name kept h (λ app. Done (leave_app with_history name writer app)) (λ app s outcomes. leave_stays name app kept h.ordered s writer)
+step_lasts m (lines.Write name ops writer) kept h =
+    app_lasts m.apps name kept h (write_app with_history name ops writer) (λ app s outcomes. unless_stays name app kept h.ordered s ops (write_fault writer app.queue) outcomes)
 step_lasts m (lines.Fetch name table query) kept h =
     app_lasts m.apps name kept h (looks with_history (fetched name table query)) (λ app s outcomes. stays_so name app kept h.ordered s (fetched name table query (store_of app)))
 step_lasts m (lines.Rows name table) kept h =

@@ -1,7 +1,6 @@
 -- A run that goes on by one line.
 use Rattle.std.proofs.Common.{◌≡◌, ℕ, ◌+◌, List, [], ◌∷◌, ◌++◌, ◌⊎◌, inl, inr, map, Bool, true, false, refl, ap, sym, ◌∙◌, subst, append_assoc, append-nil}
 use Rattle.melon_outside.specs.Keeping.{Stores}
-use Rattle.melon_board.specs.Stores.{SeenStore}
 use Rattle.melon_script.specs.SeenLine.{SeenLine}
 use Rattle.std.specs.Prelude.{Option, Some, None, if◌then◌else◌}
 use Rattle.melon_script.specs.Forms.{line_of, is_blank}
@@ -9,7 +8,7 @@ use Rattle.melon_script.specs.Script.{forms_in, forms_of, first_form, bad_from, 
 use Rattle.melon_script.specs.Printed.{answer_text}
 use Rattle.melon_script.specs.declared.item.Item.{Item}
 use Rattle.melon_machine.specs.Calls.{Calls, Done, with_end, Followed, follow, Follows}
-use Rattle.melon_machine.specs.State.{App, State, store_of, stores_of, with_history, as_kept, none_open}
+use Rattle.melon_machine.specs.State.{App, KeptApp, State, kept_of, with_history, as_kept, none_open}
 use Rattle.melon_machine.specs.Step.{Stepped, ends_with, step}
 use Rattle.melon_machine.specs.Run.{by_form, line_calls, Ran, prints_first, goes_on, run_from, run, ComesTo}
 use Rattle.melon_machine.proofs.Followed.{same_is, follow_exact, follows_end}
@@ -25,20 +24,20 @@ prints_twice a b later = λ i. record { text = sym (append_assoc a b later.text)
 
 -- one line more, by a machine that has the stores alone
 pub one_more : (script : List ℕ) (was : Stores) (used : List Bool) (printed : List ℕ) (now : State App) (kept : Stores) (line : SeenLine) (more : List SeenLine)
-    (taken : List Bool) (after : State SeenStore) (items : List Item) (kept' : Stores)
-    → ComesTo script was used printed now kept (line ∷ more) → Follows (step as_kept (stores_of now) line) kept taken (record { after = after; items = items }) kept'
-    → (next : State App) × (stores_of next ≡ after) × ComesTo script was (used ++ taken) (printed ++ answer_text items) next kept' more
+    (taken : List Bool) (after : State KeptApp) (items : List Item) (kept' : Stores)
+    → ComesTo script was used printed now kept (line ∷ more) → Follows (step as_kept (kept_of now) line) kept taken (record { after = after; items = items }) kept'
+    → (next : State App) × (kept_of next ≡ after) × ComesTo script was (used ++ taken) (printed ++ answer_text items) next kept' more
 one_more script was used printed now kept line more taken after items kept' c f =
     let end = follows_end kept_step (step with_history now line) kept taken (record { after = after; items = items }) kept'
-    (subst (λ (calls : Calls (Stepped SeenStore)). Follows calls kept taken (record { after = after; items = items }) kept') (step_same now line) f) in (
+    (subst (λ (calls : Calls (Stepped KeptApp)). Follows calls kept taken (record { after = after; items = items }) kept') (step_same now line) f) in (
       end.0.after,
-      ap (λ (s : Stepped SeenStore). s.after) end.1,
+      ap (λ (s : Stepped KeptApp). s.after) end.1,
       record {
         goes = λ later.
             ap (run script was) (append_assoc used taken later)
             ∙ c.goes (taken ++ later)
             ∙ ap (λ (done : Followed (Stepped App)). prints_first printed (goes_on done (λ next now left. run_from next now more left))) (follow_exact (step with_history now line) kept taken end.0 kept' later end.2)
-            ∙ ap (λ (said : List Item). prints_first printed (prints_first (answer_text said) (run_from end.0.after kept' more later))) (ap (λ (s : Stepped SeenStore). s.items) end.1)
+            ∙ ap (λ (said : List Item). prints_first printed (prints_first (answer_text said) (run_from end.0.after kept' more later))) (ap (λ (s : Stepped KeptApp). s.items) end.1)
             ∙ prints_twice printed (answer_text items) (run_from end.0.after kept' more later);
       },
     )
@@ -57,31 +56,31 @@ forms_blank bytes more is = ap (λ b. if b then forms_of more else first_form (l
 forms_line : (bytes : List ℕ) (more : List (List ℕ)) (form : Option SeenLine) → is_blank bytes ≡ false → line_of bytes ≡ form → forms_of (bytes ∷ more) ≡ first_form form (forms_of more)
 forms_line bytes more form not_blank is = ap (λ b. if b then forms_of more else first_form (line_of bytes) (forms_of more)) not_blank ∙ ap (λ f. first_form f (forms_of more)) is
 
-calls_blank : (m : State SeenStore) (bytes : List ℕ) → is_blank bytes ≡ true → line_calls as_kept m bytes ≡ Done (ends_with m [])
+calls_blank : (m : State KeptApp) (bytes : List ℕ) → is_blank bytes ≡ true → line_calls as_kept m bytes ≡ Done (ends_with m [])
 calls_blank m bytes is = ap (λ b. if b then Done (ends_with m []) else by_form as_kept m (line_of bytes)) is
 
-calls_line : (m : State SeenStore) (bytes : List ℕ) (line : SeenLine) → is_blank bytes ≡ false → line_of bytes ≡ Some line → line_calls as_kept m bytes ≡ step as_kept m line
+calls_line : (m : State KeptApp) (bytes : List ℕ) (line : SeenLine) → is_blank bytes ≡ false → line_of bytes ≡ Some line → line_calls as_kept m bytes ≡ step as_kept m line
 calls_line m bytes line not_blank is = ap (λ b. if b then Done (ends_with m []) else by_form as_kept m (line_of bytes)) not_blank ∙ ap (by_form as_kept m) is
 
-pub calls_of_blank : (m : State SeenStore) (bytes : List ℕ) → is_blank bytes ≡ true → Done (ends_with m []) ≡ line_calls as_kept m bytes
+pub calls_of_blank : (m : State KeptApp) (bytes : List ℕ) → is_blank bytes ≡ true → Done (ends_with m []) ≡ line_calls as_kept m bytes
 calls_of_blank m bytes is = sym (calls_blank m bytes is)
 
-pub calls_of_line : (m : State SeenStore) (bytes : List ℕ) (line : SeenLine) → is_blank bytes ≡ false → line_of bytes ≡ Some line → step as_kept m line ≡ line_calls as_kept m bytes
+pub calls_of_line : (m : State KeptApp) (bytes : List ℕ) (line : SeenLine) → is_blank bytes ≡ false → line_of bytes ≡ Some line → step as_kept m line ≡ line_calls as_kept m bytes
 calls_of_line m bytes line not_blank is = sym (calls_line m bytes line not_blank is)
 
 -- a run that comes to a line of bytes comes to what follows it
 pub one_line_more : (script : List ℕ) (was : Stores) (used : List Bool) (printed : List ℕ) (now : State App) (kept : Stores) (bytes : List ℕ) (more : List (List ℕ))
-    (taken : List Bool) (after : State SeenStore) (items : List Item) (kept' : Stores) → IsLine bytes
-    → ComesTo script was used printed now kept (forms_of (bytes ∷ more)) → Follows (line_calls as_kept (stores_of now) bytes) kept taken (ends_with after items) kept'
-    → (next : State App) × (stores_of next ≡ after) × ComesTo script was (used ++ taken) (printed ++ answer_text items) next kept' (forms_of more)
+    (taken : List Bool) (after : State KeptApp) (items : List Item) (kept' : Stores) → IsLine bytes
+    → ComesTo script was used printed now kept (forms_of (bytes ∷ more)) → Follows (line_calls as_kept (kept_of now) bytes) kept taken (ends_with after items) kept'
+    → (next : State App) × (kept_of next ≡ after) × ComesTo script was (used ++ taken) (printed ++ answer_text items) next kept' (forms_of more)
 one_line_more script was used printed now kept bytes more taken after items kept' (inl blank) c f =
-    let done : Follows (Done (ends_with (stores_of now) [])) kept taken (ends_with after items) kept' =
-    subst (λ (calls : Calls (Stepped SeenStore)). Follows calls kept taken (ends_with after items) kept') (calls_blank (stores_of now) bytes blank) f in
+    let done : Follows (Done (ends_with (kept_of now) [])) kept taken (ends_with after items) kept' =
+    subst (λ (calls : Calls (Stepped KeptApp)). Follows calls kept taken (ends_with after items) kept') (calls_blank (kept_of now) bytes blank) f in
     let come : ComesTo script was used printed now kept (forms_of more) = subst (λ (forms : List SeenLine). ComesTo script was used printed now kept forms) (forms_blank bytes more blank) c in
-    let quiet : items ≡ [] = sym (ap (λ (s : Stepped SeenStore). s.items) done.1) in
+    let quiet : items ≡ [] = sym (ap (λ (s : Stepped KeptApp). s.items) done.1) in
     let same : kept' ≡ kept = same_is kept' kept done.2 in (
       now,
-      ap (λ (s : Stepped SeenStore). s.after) done.1,
+      ap (λ (s : Stepped KeptApp). s.after) done.1,
       subst (λ (k : Stores). ComesTo script was (used ++ taken) (printed ++ answer_text items) now k (forms_of more)) (sym same)
           (subst (λ (u : List Bool). ComesTo script was u (printed ++ answer_text items) now kept (forms_of more)) (sym (append-nil used) ∙ ap (λ (u : List Bool). used ++ u) (sym done.0))
           (subst (λ (t : List ℕ). ComesTo script was used t now kept (forms_of more)) (sym (append-nil printed) ∙ ap (λ (i : List Item). printed ++ answer_text i) (sym quiet)) come)),
@@ -89,7 +88,7 @@ one_line_more script was used printed now kept bytes more taken after items kept
 one_line_more script was used printed now kept bytes more taken after items kept' (inr line) c f =
     one_more script was used printed now kept line.1.0 (forms_of more) taken after items kept'
     (subst (λ (forms : List SeenLine). ComesTo script was used printed now kept forms) (forms_line bytes more (Some line.1.0) line.0 line.1.1) c)
-    (subst (λ (calls : Calls (Stepped SeenStore)). Follows calls kept taken (ends_with after items) kept') (calls_line (stores_of now) bytes line.1.0 line.0 line.1.1) f)
+    (subst (λ (calls : Calls (Stepped KeptApp)). Follows calls kept taken (ends_with after items) kept') (calls_line (kept_of now) bytes line.1.0 line.0 line.1.1) f)
 
 -- a run that comes to a line outside the grammar has come to its end
 pub at_bad : (script : List ℕ) (was : Stores) (used : List Bool) (printed : List ℕ) (now : State App) (kept : Stores) (bytes : List ℕ) (more : List (List ℕ)) → is_blank bytes ≡ false → line_of bytes ≡ None

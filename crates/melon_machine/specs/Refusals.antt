@@ -1,10 +1,12 @@
 -- The printed refusals: the group, the number and the details of each fault. Want of memory, which has number 0 here, is never printed.
-use Rattle.std.specs.Prelude.{ℕ, List, [], ◌∷◌, Bool, true, false}
+use Rattle.std.specs.Prelude.{ℕ, List, [], ◌∷◌, Bool, true, false, Option, Some, None}
 use Rattle.std.specs.List.{list_any}
 use Rattle.melon_schema.specs.declared.schema_fault.SchemaFault.{SchemaFault}
 use Rattle.melon_schema.specs.Schema.{fault_number}
 use Rattle.melon_query.specs.declared.query_fault.QueryFault.{QueryFault}
 use Rattle.melon_query.specs.Numbers as query
+use Rattle.melon_queue.specs.declared.queue.QueueFault.{QueueFault}
+use Rattle.melon_queue.specs.declared.queue.QueueFault.TheVariants as faults
 use Rattle.melon_outside.specs.declared.kept.OpenFault.{OpenFault}
 use Rattle.melon_outside.specs.declared.kept.OpenFault.TheVariants as opens
 use Rattle.melon_change.specs.declared.op.OpsFault.{OpsFault}
@@ -18,7 +20,7 @@ use Rattle.melon_script.specs.declared.item.Item.TheVariants as items
 use Rattle.melon_script.specs.declared.item.Group.{Group}
 use Rattle.melon_script.specs.declared.item.Group.TheVariants as groups
 use Rattle.melon_script.specs.declared.item.Detail.{Detail}
-use Rattle.melon_script.specs.declared.item.Detail.TheVariants.{Number, Words}
+use Rattle.melon_script.specs.declared.item.Detail.TheVariants.{Number, Words, Absent}
 
 abbrev pub refused : Group → ℕ → List Detail → Item
 refused group number details = items.Refused group number details
@@ -38,6 +40,22 @@ keeper_refusal = refused groups.Keeper 1 []
 
 abbrev pub query_refusal : QueryFault → Item
 query_refusal fault = refused groups.Query (query.fault_number fault) []
+
+-- a name, or nobody
+abbrev pub holder_detail : Option (List ℕ) → Detail
+holder_detail None = Absent
+holder_detail (Some holder) = Words holder
+
+-- 1 already queued, 2 not the holder, 3 full
+abbrev pub queue_refusal : List ℕ → QueueFault → Item
+queue_refusal writer faults.Queued = refused groups.Queue 1 (Words writer ∷ [])
+queue_refusal writer (faults.NotHolder holder) = refused groups.Queue 2 (holder_detail holder ∷ [])
+queue_refusal writer (faults.Full count) = refused groups.Queue 3 (Number count ∷ [])
+queue_refusal writer faults.Memory = refused groups.Queue 0 []
+
+-- 4 a name outside the form of ids
+abbrev pub writer_refusal : List ℕ → Item
+writer_refusal writer = refused groups.Queue 4 (Words writer ∷ [])
 
 -- 1 a stored row, 2 the stored version, 3 so many bytes
 abbrev pub open_refusal : OpenFault → Item

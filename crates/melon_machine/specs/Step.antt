@@ -1,8 +1,8 @@
 -- One step of the machine: what a line asks of the keeper, does and prints, checked in the order of its form.
-use Rattle.std.specs.Prelude.{ℕ, ◌^◌, ◌-◌, min, sum_by, List, [], ◌∷◌, ◌++◌, length, map, position, get_or, set, slice_get, Bool, not, nat_le, Option, Some, None, is_some, Result, Ok, Err, bytes_eq, if◌then◌else◌}
+use Rattle.std.specs.Prelude.{ℕ, ◌^◌, ◌-◌, min, sum_by, List, [], ◌∷◌, ◌++◌, length, map, position, get_or, set, slice_get, zero, suc, option_map, Bool, not, nat_le, Option, Some, None, is_some, Result, Ok, Err, bytes_eq, if◌then◌else◌}
 use Rattle.std.specs.List.{remove}
 use Rattle.serde_json.specs.Data.{Data}
-use Rattle.melon_schema.specs.Names.{is_name}
+use Rattle.melon_schema.specs.Names.{is_name, is_id}
 use Rattle.melon_schema.specs.Places.{table_named}
 use Rattle.melon_schema.specs.Schema.{schema_of}
 use Rattle.melon_schema.specs.Seen.{SeenSchema}
@@ -15,6 +15,12 @@ use Rattle.melon_outside.specs.declared.kept.OpenFault.{OpenFault}
 use Rattle.melon_change.specs.Forms.{ops_of}
 use Rattle.melon_change.specs.declared.op.Op.{Op}
 use Rattle.melon_change.specs.declared.op.OpsFault.{OpsFault}
+use Rattle.melon_queue.specs.Queues.{holder_of, holds, entered, nested, quit}
+use Rattle.melon_queue.specs.Seen.{SeenQueue}
+use Rattle.melon_queue.specs.declared.queue.Left.{Left}
+use Rattle.melon_queue.specs.declared.queue.Left.TheVariants as left
+use Rattle.melon_queue.specs.declared.queue.QueueFault.{QueueFault}
+use Rattle.melon_queue.specs.declared.queue.QueueFault.TheVariants.{NotHolder}
 use Rattle.melon_board.specs.Stores.{SeenStore, store_key}
 use Rattle.melon_board.specs.Opening.{open_plan}
 use Rattle.melon_board.specs.Plans.{Plan, write_plan}
@@ -29,7 +35,7 @@ use Rattle.melon_script.specs.declared.item.Item.{Item}
 use Rattle.melon_script.specs.declared.item.Item.TheVariants as items
 use Rattle.melon_machine.specs.Calls.{Calls, Done, Load, asks, with_end}
 use Rattle.melon_machine.specs.State.{Kind, State}
-use Rattle.melon_machine.specs.Refusals.{app_refusal, schema_refusal, table_refusal, query_refusal, keeper_refusal, open_refusal, ops_refusal, write_refusal}
+use Rattle.melon_machine.specs.Refusals.{app_refusal, schema_refusal, table_refusal, query_refusal, keeper_refusal, open_refusal, ops_refusal, write_refusal, queue_refusal, writer_refusal}
 
 -- ---- what is asked of rows
 
@@ -68,6 +74,32 @@ told app item = record { app = app; items = item ∷ [] }
 -- the app is put back in its place
 abbrev pub put_back : {A : Type 0} → List A → ℕ → Told A → Stepped A
 put_back apps place t = record { after = record { apps = set apps place t.app }; items = t.items }
+
+-- who enters an empty queue holds it
+abbrev pub enter_item : List ℕ → List ℕ → ℕ → Item
+enter_item name writer zero = items.EnterHolds name writer
+enter_item name writer (suc n) = items.EnterWaits name writer (suc n)
+
+abbrev pub next_item : List ℕ → List ℕ → Option (List ℕ) → Item
+next_item name writer None = items.LeaveFree name writer
+next_item name writer (Some next) = items.LeaveNext name writer next
+
+-- what is told of a writer that leaves this queue, which is then that one
+abbrev pub leave_item : List ℕ → List ℕ → SeenQueue → Left → SeenQueue → Item
+leave_item name writer was (left.Depth depth) now = items.LeaveDepth name writer depth
+leave_item name writer was left.Next now = next_item name writer (holder_of now)
+leave_item name writer was left.Free now = items.LeaveFree name writer
+leave_item name writer was left.NotHolder now = queue_refusal writer (NotHolder (holder_of was))
+
+-- the writer is the holder
+abbrev pub queue_fault : List ℕ → SeenQueue → Option Item
+queue_fault writer queue = if not (is_id writer) then Some (writer_refusal writer) else
+    (if holds writer queue then None else Some (queue_refusal writer (NotHolder (holder_of queue))))
+
+-- a batch is made by the holder; one without a writer is a block of its own, which needs that nobody holds the queue
+abbrev pub write_fault : Option (List ℕ) → SeenQueue → Option Item
+write_fault (Some writer) queue = queue_fault writer queue
+write_fault None queue = option_map (λ holder. queue_refusal [] (NotHolder (Some holder))) (holder_of queue)
 
 module _ {A : Type 0} (kind : Kind A) where
   abbrev pub place_of : List ℕ → List A → Option ℕ
@@ -141,8 +173,35 @@ module _ {A : Type 0} (kind : Kind A) where
   writes name app (Ok ops) = writes_by name app (write_plan (kind.store app) ops)
   writes name app (Err fault) = Done (told app (ops_refusal fault))
 
-  abbrev pub write_app : List ℕ → Data → A → Calls (Told A)
-  write_app name json app = writes name app (ops_of json)
+  abbrev pub writes_unless : List ℕ → Data → A → Option Item → Calls (Told A)
+  writes_unless name json app (Some refusal) = Done (told app refusal)
+  writes_unless name json app None = writes name app (ops_of json)
+
+  -- the queue is checked before the operations are read
+  abbrev pub write_app : List ℕ → Data → Option (List ℕ) → A → Calls (Told A)
+  write_app name json writer app = writes_unless name json app (write_fault writer (kind.queue app))
+
+  -- ---- the queue of writers
+
+  abbrev pub entered_as : List ℕ → List ℕ → A → Result (ℕ × SeenQueue) QueueFault → Told A
+  entered_as name writer app (Ok entered) = told (kind.queued app entered.1) (enter_item name writer entered.0)
+  entered_as name writer app (Err fault) = told app (queue_refusal writer fault)
+
+  abbrev pub enter_app : List ℕ → List ℕ → A → Told A
+  enter_app name writer app = if is_id writer then entered_as name writer app (entered writer (kind.queue app)) else told app (writer_refusal writer)
+
+  abbrev pub nested_as : List ℕ → List ℕ → A → Result (ℕ × SeenQueue) QueueFault → Told A
+  nested_as name writer app (Ok nested) = told (kind.queued app nested.1) (items.Nest name writer nested.0)
+  nested_as name writer app (Err fault) = told app (queue_refusal writer fault)
+
+  abbrev pub nest_app : List ℕ → List ℕ → A → Told A
+  nest_app name writer app = if is_id writer then nested_as name writer app (nested writer (kind.queue app)) else told app (writer_refusal writer)
+
+  abbrev pub left_as : List ℕ → List ℕ → A → Left × SeenQueue → Told A
+  left_as name writer app left = told (kind.queued app left.1) (leave_item name writer (kind.queue app) left.0 left.1)
+
+  abbrev pub leave_app : List ℕ → List ℕ → A → Told A
+  leave_app name writer app = if is_id writer then left_as name writer app (quit writer (kind.queue app)) else told app (writer_refusal writer)
 
 -- ---- reading
 
@@ -172,6 +231,9 @@ module _ {A : Type 0} (kind : Kind A) where
   unfoldable pub step : State A → SeenLine → Calls (Stepped A)
   step m (lines.Open name schema) = open_step kind m.apps name schema
   step m (lines.Close name) = Done (close_step kind m.apps name)
-  step m (lines.Write name ops) = on_app kind m.apps name (write_app kind name ops)
+  step m (lines.Enter name writer) = on_app kind m.apps name (λ app. Done (enter_app kind name writer app))
+  step m (lines.Nest name writer) = on_app kind m.apps name (λ app. Done (nest_app kind name writer app))
+  step m (lines.Leave name writer) = on_app kind m.apps name (λ app. Done (leave_app kind name writer app))
+  step m (lines.Write name ops writer) = on_app kind m.apps name (write_app kind name ops writer)
   step m (lines.Fetch name table query) = on_app kind m.apps name (looks (fetched name table query))
   step m (lines.Rows name table) = on_app kind m.apps name (looks (rows_shown name table))

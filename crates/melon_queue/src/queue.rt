@@ -103,7 +103,7 @@ impl Queue {
     ghost use Rattle.std.specs.Prelude.{◌≡◌, []};
     ghost use Rattle.std.specs.Option.{option_copied};
     ghost use Rattle.melon_queue.specs.Seen.{IsQueue};
-    ghost use Rattle.melon_queue.specs.Queues.{holder_of, entered, nested, quit, Steps};
+    ghost use Rattle.melon_queue.specs.Queues.{first, rest, holder_of, entered, nested, quit, Steps};
 
     pub fn new(alloc: Global) -> Queue
         ensures { result ≡ record { names = []; depth = 0 } }
@@ -173,6 +173,13 @@ impl Queue {
             return Left::Free;
         }
         Left::Next
+    }
+
+    /// The name that holds the queue once the holder has left it.
+    pub fn next(&self) -> Option<&Id>
+        ensures { option_copied result ≡ first (rest self.now.names) }
+    {
+        self.names.get(1)
     }
 
     /// The name that holds the queue.

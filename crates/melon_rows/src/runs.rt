@@ -421,3 +421,59 @@ fn answers_are_sorted_and_cut(rt: HostRuntime) -> Result<(), Fail> {
         ],
     )
 }
+
+/// A line of a writer of app A.
+fn writer_line(alloc: Global, word: &str, writer: &str) -> Result<String, Fail> {
+    Ok(format!(in alloc; "{{\"do\":\"{word}\",\"app\":\"A\",\"writer\":\"{writer}\"}}")?)
+}
+
+#[test]
+fn writers_queue_and_nest(rt: HostRuntime) -> Result<(), Fail> {
+    let alloc = rt.alloc();
+    let steps = [
+        ("enter", "w1", "enter A w1 holds"),
+        ("nest", "w1", "nest A w1 depth 2"),
+        ("enter", "w1", "refused queue 1 \"w1\""),
+        ("enter", "w2", "enter A w2 waits 1"),
+        ("nest", "w2", "refused queue 2 \"w1\""),
+        ("leave", "w2", "refused queue 2 \"w1\""),
+        ("leave", "w1", "leave A w1 depth 1"),
+        ("leave", "w1", "leave A w1 next w2"),
+        ("leave", "w2", "leave A w2 free"),
+        ("leave", "w2", "refused queue 2 null"),
+        ("enter", "w 3", "refused queue 4 \"w 3\""),
+    ];
+    let mut bytes = script(alloc, &[OPENED])?;
+    let mut text = String::from_str(alloc, "open A rows 0 last 0\n")?;
+    for (word, writer, answer) in steps {
+        bytes.extend_from_slice(writer_line(alloc, word, writer)?.as_bytes())?;
+        bytes.push(b'\n')?;
+        text.push_str(answer)?;
+        text.push('\n')?;
+    }
+    let (ended, written) = ends(alloc, &["run"], bytes, &CALM)?;
+    assert_eq!(rt; ended, Status::Done);
+    assert_eq!(rt; written.as_str(), text.as_str());
+    Ok(())
+}
+
+#[test]
+fn the_holder_alone_writes(rt: HostRuntime) -> Result<(), Fail> {
+    expect(
+        &rt,
+        &[
+            OPENED,
+            r#"{"do":"enter","app":"A","writer":"w1"}"#,
+            r#"{"do":"enter","app":"A","writer":"w2"}"#,
+            r#"{"do":"write","app":"A","writer":"w2","ops":[]}"#,
+            r#"{"do":"write","app":"A","ops":{}}"#,
+            r#"{"do":"write","app":"A","writer":"w1","ops":[{"create":"posts","id":"p1","set":{}}]}"#,
+            r#"{"do":"leave","app":"A","writer":"w1"}"#,
+            r#"{"do":"leave","app":"A","writer":"w2"}"#,
+            r#"{"do":"write","app":"A","ops":[{"delete":"posts","id":"p1"}]}"#,
+        ],
+        &CALM,
+        Status::Done,
+        "open A rows 0 last 0\nenter A w1 holds\nenter A w2 waits 1\nrefused queue 2 \"w1\"\nrefused queue 2 \"w1\"\nwrite A at 1\nleave A w1 next w2\nleave A w2 free\nwrite A at 2\n",
+    )
+}

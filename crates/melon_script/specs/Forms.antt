@@ -1,11 +1,11 @@
 -- Which bytes are a line, and which line they are.
-use Rattle.std.specs.Prelude.{ℕ, List, [], ◌∷◌, Bool, true, ◌||◌, ◌==◌, Option, Some, None, codes, bytes_eq, if◌then◌else◌}
+use Rattle.std.specs.Prelude.{ℕ, List, [], ◌∷◌, Bool, true, ◌||◌, ◌==◌, Option, Some, None, option_map, codes, bytes_eq, if◌then◌else◌}
 use Rattle.std.specs.List.{list_all}
 use Rattle.serde_json.specs.Data.{Data}
-use Rattle.serde_json.specs.Find.{get}
+use Rattle.serde_json.specs.Find.{get, as_str}
 use Rattle.melon_schema.specs.Bytes.{json_of}
 use Rattle.melon_schema.specs.Json.{◌>>=◌, given, has_only, text_at}
-use Rattle.melon_script.specs.SeenLine.{SeenLine, Open, Close, Write, Fetch, Rows}
+use Rattle.melon_script.specs.SeenLine.{SeenLine, Open, Close, Enter, Nest, Leave, Write, Fetch, Rows}
 
 abbrev pub part_at : List ℕ → Data → Option Data
 part_at key d = get key d
@@ -25,13 +25,46 @@ close_form d = do
   app ← text_at (codes "app") d
   Some (Close app)
 
--- {"do":"write","app":text,"ops":any}
+-- {"do":"enter","app":text,"writer":text}
+unfoldable pub enter_form : Data → Option SeenLine
+enter_form d = do
+  known ← given (has_only (codes "do" ∷ codes "app" ∷ codes "writer" ∷ []) d)
+  app ← text_at (codes "app") d
+  writer ← text_at (codes "writer") d
+  Some (Enter app writer)
+
+-- {"do":"nest","app":text,"writer":text}
+unfoldable pub nest_form : Data → Option SeenLine
+nest_form d = do
+  known ← given (has_only (codes "do" ∷ codes "app" ∷ codes "writer" ∷ []) d)
+  app ← text_at (codes "app") d
+  writer ← text_at (codes "writer") d
+  Some (Nest app writer)
+
+-- {"do":"leave","app":text,"writer":text}
+unfoldable pub leave_form : Data → Option SeenLine
+leave_form d = do
+  known ← given (has_only (codes "do" ∷ codes "app" ∷ codes "writer" ∷ []) d)
+  app ← text_at (codes "app") d
+  writer ← text_at (codes "writer") d
+  Some (Leave app writer)
+
+-- a text, or nothing under the key
+abbrev pub text_in : Option Data → Option (Option (List ℕ))
+text_in None = Some None
+text_in (Some part) = option_map Some (as_str part)
+
+abbrev pub text_if_at : List ℕ → Data → Option (Option (List ℕ))
+text_if_at key d = text_in (get key d)
+
+-- {"do":"write","app":text,"ops":any}, and {"writer":text} where a writer makes it
 unfoldable pub write_form : Data → Option SeenLine
 write_form d = do
-  known ← given (has_only (codes "do" ∷ codes "app" ∷ codes "ops" ∷ []) d)
+  known ← given (has_only (codes "do" ∷ codes "app" ∷ codes "ops" ∷ codes "writer" ∷ []) d)
   app ← text_at (codes "app") d
+  writer ← text_if_at (codes "writer") d
   ops ← part_at (codes "ops") d
-  Some (Write app ops)
+  Some (Write app ops writer)
 
 -- {"do":"fetch","app":text,"table":text,"query":any}
 unfoldable pub fetch_form : Data → Option SeenLine
@@ -55,9 +88,12 @@ form_of d = do
   word ← text_at (codes "do") d
   if bytes_eq word (codes "open") then open_form d else
       (if bytes_eq word (codes "close") then close_form d else
+      (if bytes_eq word (codes "enter") then enter_form d else
+      (if bytes_eq word (codes "nest") then nest_form d else
+      (if bytes_eq word (codes "leave") then leave_form d else
       (if bytes_eq word (codes "write") then write_form d else
       (if bytes_eq word (codes "fetch") then fetch_form d else
-      (if bytes_eq word (codes "rows") then rows_form d else None))))
+      (if bytes_eq word (codes "rows") then rows_form d else None)))))))
 
 -- spaces and tabs alone
 abbrev pub is_blank : List ℕ → Bool

@@ -9,13 +9,16 @@ use Rattle.melon_script.specs.declared.line.Line.{Line}
 use Rattle.melon_script.specs.declared.line.Line.TheVariants as lines
 use Rattle.melon_script.specs.declared.line.LineFault.{LineFault}
 use Rattle.melon_script.specs.declared.line.LineFault.TheVariants.{Form, Memory}
-use Rattle.melon_script.specs.SeenLine.{SeenLine, Open, Close, Write, Fetch, Rows}
+use Rattle.melon_script.specs.SeenLine.{SeenLine, Open, Close, Enter, Nest, Leave, Write, Fetch, Rows}
 use Rattle.melon_script.specs.Forms.{line_of, is_blank}
 
 abbrev pub seen : Line → SeenLine
 seen (lines.Open app schema) = Open app (view schema)
 seen (lines.Close app) = Close app
-seen (lines.Write app ops) = Write app (view ops)
+seen (lines.Enter app writer) = Enter app writer
+seen (lines.Nest app writer) = Nest app writer
+seen (lines.Leave app writer) = Leave app writer
+seen (lines.Write app ops writer) = Write app (view ops) writer
 seen (lines.Fetch app table query) = Fetch app table (view query)
 seen (lines.Rows app table) = Rows app table
 

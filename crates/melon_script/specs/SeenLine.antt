@@ -1,10 +1,13 @@
 -- The forms of a line, with the content of `schema`, `ops` and `query` as JSON data.
-use Rattle.std.specs.Prelude.{ℕ, List}
+use Rattle.std.specs.Prelude.{ℕ, List, Option}
 use Rattle.serde_json.specs.Data.{Data}
 
 pub data SeenLine : Type 0 where
   Open : List ℕ → Data → SeenLine
   Close : List ℕ → SeenLine
-  Write : List ℕ → Data → SeenLine
+  Enter : List ℕ → List ℕ → SeenLine
+  Nest : List ℕ → List ℕ → SeenLine
+  Leave : List ℕ → List ℕ → SeenLine
+  Write : List ℕ → Data → Option (List ℕ) → SeenLine
   Fetch : List ℕ → List ℕ → Data → SeenLine
   Rows : List ℕ → List ℕ → SeenLine

@@ -13,6 +13,35 @@ pub enum Item {
     Close {
         app: Text,
     },
+    EnterHolds {
+        app: Text,
+        writer: Id,
+    },
+    /// So many stand before the writer.
+    EnterWaits {
+        app: Text,
+        writer: Id,
+        before: u64,
+    },
+    Nest {
+        app: Text,
+        writer: Id,
+        depth: u64,
+    },
+    LeaveDepth {
+        app: Text,
+        writer: Id,
+        depth: u64,
+    },
+    LeaveNext {
+        app: Text,
+        writer: Id,
+        next: Id,
+    },
+    LeaveFree {
+        app: Text,
+        writer: Id,
+    },
     Write {
         app: Text,
         at: u64,
@@ -41,6 +70,7 @@ pub enum Group {
     Open,
     Schema,
     Table,
+    Queue,
     Ops,
     Batch,
     Full,
@@ -53,4 +83,6 @@ pub enum Group {
 pub enum Detail {
     Number(u64),
     Words(Text),
+    /// Nobody.
+    Absent,
 }

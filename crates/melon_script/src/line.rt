@@ -1,8 +1,9 @@
 //! A line of a script.
 ghost use Rattle.std.specs.Prelude.{◌≡◌, Some};
 ghost use Rattle.serde_json.specs.View.{view};
+ghost use Rattle.melon_schema.specs.Refusals.{Answers};
 ghost use Rattle.melon_script.specs.Seen.{seen, AnswersSeen, ReadsLine, Takes};
-ghost use Rattle.melon_script.specs.Forms.{open_form, close_form, write_form, fetch_form, rows_form, form_of, is_blank, line_of, part_at};
+ghost use Rattle.melon_script.specs.Forms.{open_form, close_form, enter_form, nest_form, leave_form, text_if_at, write_form, fetch_form, rows_form, form_of, is_blank, line_of, part_at};
 
 use melon_schema::reader::{has_only, json_of, text_at};
 use melon_schema::{Refusal, Text};
@@ -20,9 +21,22 @@ pub enum Line {
     Close {
         app: Text,
     },
+    Enter {
+        app: Text,
+        writer: Text,
+    },
+    Nest {
+        app: Text,
+        writer: Text,
+    },
+    Leave {
+        app: Text,
+        writer: Text,
+    },
     Write {
         app: Text,
         ops: Value,
+        writer: Option<Text>,
     },
     Fetch {
         app: Text,
@@ -76,16 +90,66 @@ fn close_form(alloc: Global, json: &Value) -> Result<Line, Refusal>
     Ok(Line::Close { app })
 }
 
+#[tactic(auto, unfolding(crate::specs::Forms::enter_form))]
+fn enter_form(alloc: Global, json: &Value) -> Result<Line, Refusal>
+    ensures { AnswersSeen result (enter_form (view json.now)) }
+{
+    if !has_only(json, &["do", "app", "writer"]) {
+        return Err(Refusal::Form);
+    }
+    let app = text_at(alloc, json, "app")?;
+    let writer = text_at(alloc, json, "writer")?;
+    Ok(Line::Enter { app, writer })
+}
+
+#[tactic(auto, unfolding(crate::specs::Forms::nest_form))]
+fn nest_form(alloc: Global, json: &Value) -> Result<Line, Refusal>
+    ensures { AnswersSeen result (nest_form (view json.now)) }
+{
+    if !has_only(json, &["do", "app", "writer"]) {
+        return Err(Refusal::Form);
+    }
+    let app = text_at(alloc, json, "app")?;
+    let writer = text_at(alloc, json, "writer")?;
+    Ok(Line::Nest { app, writer })
+}
+
+#[tactic(auto, unfolding(crate::specs::Forms::leave_form))]
+fn leave_form(alloc: Global, json: &Value) -> Result<Line, Refusal>
+    ensures { AnswersSeen result (leave_form (view json.now)) }
+{
+    if !has_only(json, &["do", "app", "writer"]) {
+        return Err(Refusal::Form);
+    }
+    let app = text_at(alloc, json, "app")?;
+    let writer = text_at(alloc, json, "writer")?;
+    Ok(Line::Leave { app, writer })
+}
+
+/// The text under a key, where there is one.
+fn text_if_at(alloc: Global, json: &Value, key: &str) -> Result<Option<Text>, Refusal>
+    ensures { Answers result (text_if_at key.now (view json.now)) }
+{
+    match json.get(key) {
+        Some(part) => match part.as_str() {
+            Some(text) => Ok(Some(Text::new(alloc, text)?)),
+            None => Err(Refusal::Form),
+        },
+        None => Ok(None),
+    }
+}
+
 #[tactic(auto, unfolding(crate::specs::Forms::write_form))]
 fn write_form(alloc: Global, json: &mut Value) -> Result<Line, Refusal>
     ensures { AnswersSeen result (write_form (view json.old)) }
 {
-    if !has_only(json, &["do", "app", "ops"]) {
+    if !has_only(json, &["do", "app", "ops", "writer"]) {
         return Err(Refusal::Form);
     }
     let app = text_at(alloc, json, "app")?;
+    let writer = text_if_at(alloc, json, "writer")?;
     let ops = take_part(json, "ops")?;
-    Ok(Line::Write { app, ops })
+    Ok(Line::Write { app, ops, writer })
 }
 
 #[tactic(auto, unfolding(crate::specs::Forms::fetch_form))]
@@ -121,6 +185,9 @@ fn form_of(alloc: Global, json: &mut Value) -> Result<Line, Refusal>
     match word.as_str() {
         "open" => open_form(alloc, json),
         "close" => close_form(alloc, json),
+        "enter" => enter_form(alloc, json),
+        "nest" => nest_form(alloc, json),
+        "leave" => leave_form(alloc, json),
         "write" => write_form(alloc, json),
         "fetch" => fetch_form(alloc, json),
         "rows" => rows_form(alloc, json),

@@ -1,6 +1,6 @@
 //! The texts of items.
 ghost use Rattle.std.specs.Prelude.{◌≡◌, ◌++◌, IfOk, OnOk, string_bytes};
-ghost use Rattle.melon_script.specs.Printed.{list_text, quoted, with_commas, joined, open_text, close_text, write_text, fetch_text, rows_head, rows_text, group_word, detail_text, details_text, refused_head, refused_text, item_text, answer_text};
+ghost use Rattle.melon_script.specs.Printed.{list_text, quoted, with_commas, joined, open_text, close_text, holds_text, waits_text, nest_text, depth_text, next_text, free_text, write_text, fetch_text, rows_head, rows_text, group_word, detail_text, details_text, refused_head, refused_text, item_text, answer_text};
 
 use crate::Answer;
 use crate::item::{Detail, Group, Item};
@@ -35,6 +35,42 @@ fn close_text(alloc: Global, app: &str) -> Result<String, AllocError>
     ensures { IfOk result (λ text. string_bytes text ≡ close_text app.now) }
 {
     format!(in alloc; "close {app}\n")
+}
+
+fn holds_text(alloc: Global, app: &str, writer: &str) -> Result<String, AllocError>
+    ensures { IfOk result (λ text. string_bytes text ≡ holds_text app.now writer.now) }
+{
+    format!(in alloc; "enter {app} {writer} holds\n")
+}
+
+fn waits_text(alloc: Global, app: &str, writer: &str, before: u64) -> Result<String, AllocError>
+    ensures { IfOk result (λ text. string_bytes text ≡ waits_text app.now writer.now before) }
+{
+    format!(in alloc; "enter {app} {writer} waits {before}\n")
+}
+
+fn nest_text(alloc: Global, app: &str, writer: &str, depth: u64) -> Result<String, AllocError>
+    ensures { IfOk result (λ text. string_bytes text ≡ nest_text app.now writer.now depth) }
+{
+    format!(in alloc; "nest {app} {writer} depth {depth}\n")
+}
+
+fn depth_text(alloc: Global, app: &str, writer: &str, depth: u64) -> Result<String, AllocError>
+    ensures { IfOk result (λ text. string_bytes text ≡ depth_text app.now writer.now depth) }
+{
+    format!(in alloc; "leave {app} {writer} depth {depth}\n")
+}
+
+fn next_text(alloc: Global, app: &str, writer: &str, next: &str) -> Result<String, AllocError>
+    ensures { IfOk result (λ text. string_bytes text ≡ next_text app.now writer.now next.now) }
+{
+    format!(in alloc; "leave {app} {writer} next {next}\n")
+}
+
+fn free_text(alloc: Global, app: &str, writer: &str) -> Result<String, AllocError>
+    ensures { IfOk result (λ text. string_bytes text ≡ free_text app.now writer.now) }
+{
+    format!(in alloc; "leave {app} {writer} free\n")
 }
 
 fn write_text(alloc: Global, app: &str, at: u64) -> Result<String, AllocError>
@@ -103,6 +139,7 @@ fn group_word(group: Group) -> &'static str
         Group::Open => "open",
         Group::Schema => "schema",
         Group::Table => "table",
+        Group::Queue => "queue",
         Group::Ops => "ops",
         Group::Batch => "batch",
         Group::Full => "full",
@@ -117,6 +154,7 @@ fn detail_text(alloc: Global, detail: &Detail) -> Result<String, AllocError>
     match detail {
         Detail::Number(number) => format!(in alloc; "{number}"),
         Detail::Words(text) => quoted(alloc, text.as_str()),
+        Detail::Absent => String::from_str(alloc, "null"),
     }
 }
 
@@ -162,6 +200,26 @@ fn item_text(alloc: Global, item: &Item) -> Result<Vec<u8>, AllocError>
             Ok(open_text(alloc, app.as_str(), *rows, *last)?.into_bytes())
         }
         Item::Close { app } => Ok(close_text(alloc, app.as_str())?.into_bytes()),
+        Item::EnterHolds { app, writer } => {
+            Ok(holds_text(alloc, app.as_str(), writer.as_str())?.into_bytes())
+        }
+        Item::EnterWaits {
+            app,
+            writer,
+            before,
+        } => Ok(waits_text(alloc, app.as_str(), writer.as_str(), *before)?.into_bytes()),
+        Item::Nest { app, writer, depth } => {
+            Ok(nest_text(alloc, app.as_str(), writer.as_str(), *depth)?.into_bytes())
+        }
+        Item::LeaveDepth { app, writer, depth } => {
+            Ok(depth_text(alloc, app.as_str(), writer.as_str(), *depth)?.into_bytes())
+        }
+        Item::LeaveNext { app, writer, next } => {
+            Ok(next_text(alloc, app.as_str(), writer.as_str(), next.as_str())?.into_bytes())
+        }
+        Item::LeaveFree { app, writer } => {
+            Ok(free_text(alloc, app.as_str(), writer.as_str())?.into_bytes())
+        }
         Item::Write { app, at } => Ok(write_text(alloc, app.as_str(), *at)?.into_bytes()),
         Item::Fetch { app, ids } => {
             Ok(fetch_text(alloc, app.as_str(), ids.as_slice())?.into_bytes())

@@ -7,11 +7,10 @@ use Rattle.melon_outside.specs.Causes.{Rose}
 use Rattle.melon_outside.specs.Keeping.{Stores, AreSame}
 use Rattle.melon_outside.specs.declared.kept.KeptBatch.{KeptBatch}
 use Rattle.melon_board.specs.Carried.{IsDone, HoldsAsBefore}
-use Rattle.melon_board.specs.Stores.{SeenStore}
 use Rattle.melon_script.specs.declared.item.Item.{Item}
 use Rattle.melon_machine.specs.Calls.{Calls, Done, Load, Commit, asks, with_end, failures, RoseBy, after_batch, Follows, Meets}
 use Rattle.melon_machine.specs.Refusals.{is_of_keeper, app_refusal}
-use Rattle.melon_machine.specs.State.{as_kept}
+use Rattle.melon_machine.specs.State.{KeptApp, as_kept}
 use Rattle.melon_machine.specs.Step.{Told, told, Stepped, stepped, put_back, on_app, on_place, on_found, place_of}
 use Rattle.melon_machine.proofs.Followed.{changes_same, rose_none}
 use Rattle.melon_world.specs.Handled.{IsHandled}
@@ -52,25 +51,25 @@ module _ (before now : Stores → Type 0) (count count' : ℕ) where
 -- ---- an open app
 
 -- the app that stands at the place of a name
-pub app_found : (apps : List SeenStore) (name : List ℕ) (does : SeenStore → Calls (Told SeenStore)) (place : ℕ) (store : SeenStore) → Some place ≡ place_of as_kept name apps → store ≡ get_or apps place store
+pub app_found : (apps : List KeptApp) (name : List ℕ) (does : KeptApp → Calls (Told KeptApp)) (place : ℕ) (store : KeptApp) → Some place ≡ place_of as_kept name apps → store ≡ get_or apps place store
     → on_app as_kept apps name does ≡ with_end (put_back apps place) (does store)
 app_found apps name does place store at here =
     ap (on_place as_kept apps name does) (sym at)
-    ∙ ap (on_found as_kept apps name does place) (slice_get_or apps place store (position-Some (λ (s : SeenStore). bytes_eq s.name name) apps place store (sym at)).0 ∙ ap Some (sym here))
+    ∙ ap (on_found as_kept apps name does place) (slice_get_or apps place store (position-Some (λ (s : KeptApp). bytes_eq s.store.name name) apps place store (sym at)).0 ∙ ap Some (sym here))
 
-pub app_missing : (apps : List SeenStore) (name : List ℕ) (does : SeenStore → Calls (Told SeenStore)) → None ≡ place_of as_kept name apps → on_app as_kept apps name does ≡ Done (stepped apps (app_refusal 2 name))
+pub app_missing : (apps : List KeptApp) (name : List ℕ) (does : KeptApp → Calls (Told KeptApp)) → None ≡ place_of as_kept name apps → on_app as_kept apps name does ≡ Done (stepped apps (app_refusal 2 name))
 app_missing apps name does at = ap (on_place as_kept apps name does) (sym at)
 
-pub put_same : (apps : List SeenStore) (place : ℕ) (store left : SeenStore) → store ≡ get_or apps place store → left ≡ store → set apps place left ≡ apps
+pub put_same : (apps : List KeptApp) (place : ℕ) (store left : KeptApp) → store ≡ get_or apps place store → left ≡ store → set apps place left ≡ apps
 put_same apps place store left here same = ap (set apps place) (same ∙ here) ∙ set-get_or apps place store
 
 module _ (before now : Stores → Type 0) (count count' : ℕ) where
-  pub on_app_handled : {E : Type 0} (apps : List SeenStore) (name : List ℕ) (does : SeenStore → Calls (Told SeenStore)) (place : ℕ) (store left : SeenStore) (result : Result Item E)
+  pub on_app_handled : {E : Type 0} (apps : List KeptApp) (name : List ℕ) (does : KeptApp → Calls (Told KeptApp)) (place : ℕ) (store left : KeptApp) (result : Result Item E)
       → Some place ≡ place_of as_kept name apps → store ≡ get_or apps place store
       → IsHandled (does store) (told left) is_of_keeper before now count count' store left result
       → IsHandled (on_app as_kept apps name does) (stepped (set apps place left)) is_of_keeper before now count count' apps (set apps place left) result
   on_app_handled apps name does place store left (Ok item) at here h = record {
-    met = subst (λ (calls : Calls (Stepped SeenStore)). Meets calls before now count count' (stepped (set apps place left) item))
+    met = subst (λ (calls : Calls (Stepped KeptApp)). Meets calls before now count count' (stepped (set apps place left) item))
         (sym (app_found apps name does place store at here))
         (met_at_end before now count count' (put_back apps place) (does store) (told left item) h.met);
     same = tt;
@@ -87,11 +86,11 @@ module _ (before now : Stores → Type 0) (count count' : ℕ) where
   }
 
 -- a handler that asks nothing of the keeper
-pub handled_quietly : {E : Type 0} (holds : Stores → Type 0) (count : ℕ) (calls : Calls (Stepped SeenStore)) (apps left : List SeenStore) (result : Result Item E)
+pub handled_quietly : {E : Type 0} (holds : Stores → Type 0) (count : ℕ) (calls : Calls (Stepped KeptApp)) (apps left : List KeptApp) (result : Result Item E)
     → IfOk result (λ item. calls ≡ Done (stepped left item)) → IfOk result (λ item. is_of_keeper item ≡ false) → OnErr result (left ≡ apps)
     → IsHandled calls (stepped left) is_of_keeper holds holds count count apps left result
 handled_quietly holds count calls apps left (Ok item) is quiet same = record {
-  met = subst (λ (c : Calls (Stepped SeenStore)). Meets c holds holds count count (stepped left item)) (sym is) (met_quietly holds holds count count (stepped left item) (λ m told. (m, told, λ name. refl)) (omega arith));
+  met = subst (λ (c : Calls (Stepped KeptApp)). Meets c holds holds count count (stepped left item)) (sym is) (met_quietly holds holds count count (stepped left item) (λ m told. (m, told, λ name. refl)) (omega arith));
   same = tt;
   held = tt;
   later = omega arith;
@@ -104,3 +103,8 @@ handled_quietly holds count calls apps left (Err e) is quiet same = record {
   later = omega arith;
   cause = tt;
 }
+
+-- a handler on an open app that asks nothing of the keeper
+pub app_told : (apps : List KeptApp) (name : List ℕ) (does : KeptApp → Told KeptApp) (place : ℕ) (app left : KeptApp) (item : Item) → Some place ≡ place_of as_kept name apps → app ≡ get_or apps place app
+    → told left item ≡ does app → on_app as_kept apps name (λ a. Done (does a)) ≡ Done (stepped (set apps place left) item)
+app_told apps name does place app left item at here is = app_found apps name (λ a. Done (does a)) place app at here ∙ (λ i. Done (put_back apps place (sym is i)))

@@ -15,17 +15,17 @@ use Rattle.melon_script.specs.declared.item.Item.{Item}
 use Rattle.melon_script.specs.declared.item.Item.TheVariants as items
 use Rattle.melon_machine.specs.Calls.{Calls, Done, Load, asks, failures, RoseBy, Follows, Meets}
 use Rattle.melon_machine.specs.Refusals.{is_of_keeper, open_refusal, keeper_refusal}
-use Rattle.melon_machine.specs.State.{as_kept}
+use Rattle.melon_machine.specs.State.{KeptApp, kept_app, no_writers, as_kept}
 use Rattle.melon_machine.specs.Step.{Stepped, stepped, row_count, with_opened, opens_by, opens_over, opens_under}
 use Rattle.melon_machine.proofs.Followed.{rose_none}
 use Rattle.melon_world.specs.Handled.{IsHandled}
 use Rattle.melon_world.proofs.Meeting.{asks_done}
 
-module _ (before now : Stores → Type 0) (count count' : ℕ) (name : List ℕ) (schema : SeenSchema) (apps : List SeenStore) where
-  abbrev Ends : List SeenStore → Item → Type 0
+module _ (before now : Stores → Type 0) (count count' : ℕ) (name : List ℕ) (schema : SeenSchema) (apps : List KeptApp) where
+  abbrev Ends : List KeptApp → Item → Type 0
   Ends left item = Meets (opens_under as_kept apps name (Ok schema)) before now count count' (stepped left item)
 
-  opened : (store : SeenStore) → Opens before now name schema (Ok store) → count ≤ count' → Ends (apps ++ store ∷ []) (items.Open name (row_count store.rows) store.last)
+  opened : (store : SeenStore) → Opens before now name schema (Ok store) → count ≤ count' → Ends (apps ++ kept_app store no_writers ∷ []) (items.Open name (row_count store.rows) store.last)
   opened store h later m holds =
       let kept = h.0 in
       let told = h.2.told m holds in
@@ -77,24 +77,24 @@ module _ (before now : Stores → Type 0) (count count' : ℕ) (name : List ℕ)
   err_cause KeeperFault cause is = cause.failed refl
   err_cause Memory cause is = absurd (grind (arith, is))
 
-  pub handled_ok : {E : Type 0} (left : List SeenStore) (store : SeenStore) (said : List ℕ) (rows last : ℕ) → said ≡ name → Opens before now name schema (Ok store) → count ≤ count'
-      → left ≡ apps ++ store ∷ [] → rows ≡ row_count store.rows → last ≡ store.last
+  pub handled_ok : {E : Type 0} (left : List KeptApp) (store : SeenStore) (said : List ℕ) (rows last : ℕ) → said ≡ name → Opens before now name schema (Ok store) → count ≤ count'
+      → left ≡ apps ++ kept_app store no_writers ∷ [] → rows ≡ row_count store.rows → last ≡ store.last
       → IsHandled {E = E} (opens_under as_kept apps name (Ok schema)) (stepped left) is_of_keeper before now count count' apps left (Ok (items.Open said rows last))
   handled_ok left store said rows last same h later is rows_are last_is = record {
-    met = subst (λ (l : List SeenStore). Ends l (items.Open said rows last)) (sym is) (subst (λ (n : List ℕ). Ends (apps ++ store ∷ []) (items.Open n rows last)) (sym same)
-        (subst (λ (n : ℕ). Ends (apps ++ store ∷ []) (items.Open name n last)) (sym rows_are)
-        (subst (λ (n : ℕ). Ends (apps ++ store ∷ []) (items.Open name (row_count store.rows) n)) (sym last_is) (opened store h later))));
+    met = subst (λ (l : List KeptApp). Ends l (items.Open said rows last)) (sym is) (subst (λ (n : List ℕ). Ends (apps ++ kept_app store no_writers ∷ []) (items.Open n rows last)) (sym same)
+        (subst (λ (n : ℕ). Ends (apps ++ kept_app store no_writers ∷ []) (items.Open name n last)) (sym rows_are)
+        (subst (λ (n : ℕ). Ends (apps ++ kept_app store no_writers ∷ []) (items.Open name (row_count store.rows) n)) (sym last_is) (opened store h later))));
     same = tt;
     held = tt;
     later = later;
     cause = λ told. absurd (grind (arith, told));
   }
 
-  pub handled_err : {E : Type 0} (left : List SeenStore) (fault : OpenFault) (result : Result Item E) → Opens before now name schema (Err fault) → HasCauseOf {T = SeenStore} KeeperFault count count' (Err fault) → left ≡ apps
+  pub handled_err : {E : Type 0} (left : List KeptApp) (fault : OpenFault) (result : Result Item E) → Opens before now name schema (Err fault) → HasCauseOf {T = SeenStore} KeeperFault count count' (Err fault) → left ≡ apps
       → IfOk result (λ item. item ≡ open_refusal fault) → IfOk result (λ _. fault ≢ Memory)
       → IsHandled (opens_under as_kept apps name (Ok schema)) (stepped left) is_of_keeper before now count count' apps left result
   handled_err left fault (Ok item) h cause same is apart = record {
-    met = subst (λ (l : List SeenStore). Ends l item) (sym same) (subst (Ends apps) (sym is) (err_met fault apart h cause));
+    met = subst (λ (l : List KeptApp). Ends l item) (sym same) (subst (Ends apps) (sym is) (err_met fault apart h cause));
     same = tt;
     held = tt;
     later = cause.later;

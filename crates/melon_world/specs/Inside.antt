@@ -1,7 +1,10 @@
--- What the fields of a world stand for.
-use Rattle.melon_board.specs.Stores.{SeenStore}
-use Rattle.melon_machine.specs.State.{State}
-use Rattle.melon_world.specs.declared.world.World.TheInside.{Inside}
+-- What the fields of apps and worlds stand for.
+use Rattle.melon_machine.specs.State.{KeptApp, State}
+use Rattle.melon_world.specs.declared.app.App.TheInside as app
+use Rattle.melon_world.specs.declared.world.World.TheInside as world
 
-abbrev pub world_in : Inside → State SeenStore
+abbrev pub app_in : app.Inside → KeptApp
+app_in a = record { store = a.store; queue = a.queue }
+
+abbrev pub world_in : world.Inside → State KeptApp
 world_in w = record { apps = w.apps.items }

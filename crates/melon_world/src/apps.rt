@@ -5,13 +5,15 @@ ghost use Rattle.serde_json.specs.View.{view};
 ghost use Rattle.melon_schema.specs.Schema.{schema_of};
 ghost use Rattle.melon_table.specs.Seen.{rows_of};
 ghost use Rattle.melon_machine.specs.Refusals.{is_of_keeper};
-ghost use Rattle.melon_machine.specs.State.{as_kept};
+ghost use Rattle.melon_machine.specs.State.{as_kept, kept_app, no_writers};
 ghost use Rattle.melon_machine.specs.Step.{place_of, open_fault, opens_under, open_step, close_step, row_count, stepped};
 ghost use Rattle.melon_world.specs.Handled.{IsHandled};
 
+use crate::app::App;
 use crate::refusals::{app_refusal, open_refusal, schema_refusal};
 use melon_board::Store;
 use melon_outside::Keeper;
+use melon_queue::Queue;
 use melon_schema::names::is_name;
 use melon_schema::{AppSchema, SchemaFault, Text, Twin};
 use melon_script::Item;
@@ -23,14 +25,14 @@ use std::alloc::{AllocError, Global};
 const MOST_APPS: usize = 4;
 
 /// The place of the open app of that name.
-pub fn place_of(apps: &[Store], name: &str) -> Option<usize>
+pub fn place_of(apps: &[App], name: &str) -> Option<usize>
     ensures { result ≡ place_of as_kept name.now apps.now }
 {
-    apps.iter().position(|app| app.name() == name)
+    apps.iter().position(|app| app.store.name() == name)
 }
 
 /// The number of the refusal to open an app of that name.
-fn open_fault(apps: &[Store], name: &str) -> Option<u64>
+fn open_fault(apps: &[App], name: &str) -> Option<u64>
     ensures { result ≡ open_fault as_kept apps.now name.now }
 {
     if !is_name(name) {
@@ -57,19 +59,29 @@ fn row_count(tables: &Tables) -> u64
 }
 
 /// A push that takes no memory, since there is room.
-fn push_reserved(apps: &mut Vec<Store>, store: Store)
+fn push_reserved(apps: &mut Vec<App>, app: App)
     requires { vec_len apps.old < vec_capacity apps.old }
-    ensures { apps.new.items ≡ apps.old.items ++ store ∷ [] }
+    ensures { apps.new.items ≡ apps.old.items ++ app ∷ [] }
 {
-    match apps.push(store) {
+    match apps.push(app) {
         Ok(()) => (),
         Err(_) => unreachable!(),
     }
 }
 
+/// An app whose queue nobody has entered.
+fn just_opened(alloc: Global, store: Store) -> App
+    ensures { result ≡ kept_app store no_writers }
+{
+    App {
+        store,
+        queue: Queue::new(alloc),
+    }
+}
+
 /// Opens an app under a schema. All other memory is taken before the keeper is asked.
 fn open_under<K: Keeper>(
-    apps: &mut Vec<Store>,
+    apps: &mut Vec<App>,
     alloc: Global,
     keeper: &mut K,
     app: &Text,
@@ -83,7 +95,7 @@ fn open_under<K: Keeper>(
         Ok(store) => {
             let rows = row_count(store.board().tables());
             let last = store.last();
-            push_reserved(apps, store);
+            push_reserved(apps, just_opened(alloc, store));
             Ok(Item::Open {
                 app: name,
                 rows,
@@ -96,7 +108,7 @@ fn open_under<K: Keeper>(
 
 /// Opens an app, where nothing refuses its name.
 fn open_named<K: Keeper>(
-    apps: &mut Vec<Store>,
+    apps: &mut Vec<App>,
     alloc: Global,
     keeper: &mut K,
     app: &Text,
@@ -113,7 +125,7 @@ fn open_named<K: Keeper>(
 
 /// Opens an app over what the keeper keeps of its store.
 pub fn open<K: Keeper>(
-    apps: &mut Vec<Store>,
+    apps: &mut Vec<App>,
     alloc: Global,
     keeper: &mut K,
     app: &Text,
@@ -128,7 +140,7 @@ pub fn open<K: Keeper>(
 }
 
 /// Closes an app: its opening ends, and its store stays kept.
-pub fn close(apps: &mut Vec<Store>, alloc: Global, app: &Text) -> Result<Item, AllocError>
+pub fn close(apps: &mut Vec<App>, alloc: Global, app: &Text) -> Result<Item, AllocError>
     ensures closed { IfOk result (λ item. close_step as_kept apps.old.items app.now ≡ stepped apps.new.items item) }
     ensures quiet { IfOk result (λ item. is_of_keeper item ≡ false) }
     ensures same { OnErr result (apps.new.items ≡ apps.old.items) }

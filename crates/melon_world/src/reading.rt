@@ -13,6 +13,7 @@ ghost use Rattle.melon_machine.specs.State.{as_kept};
 ghost use Rattle.melon_machine.specs.Step.{place_of, on_app, looks, answered, fetched, rows_shown, encodings_at, stepped};
 ghost use Rattle.melon_machine.specs.Calls.{Done};
 
+use crate::app::App;
 use crate::apps::place_of;
 use crate::refusals::{app_refusal, query_refusal, table_refusal};
 use melon_board::Store;
@@ -103,25 +104,27 @@ fn answered(
 }
 
 fn fetched(
-    store: &Store,
+    opened: &App,
     alloc: Global,
     app: &Text,
     table: &Text,
     json: &Value,
 ) -> Result<Item, AllocError>
-    ensures item { IfOk result (λ item. item ≡ fetched app.now table.now (view json.now) store.now) }
+    ensures item { IfOk result (λ item. item ≡ fetched app.now table.now (view json.now) opened.now.store) }
     ensures quiet { IfOk result (λ item. is_of_keeper item ≡ false) }
 {
+    let store = &opened.store;
     match store.schema().table(table.as_str()) {
         Some(_) => answered(store, alloc, app, table, json),
         None => table_refusal(alloc, table),
     }
 }
 
-fn rows_shown(store: &Store, alloc: Global, app: &Text, table: &Text) -> Result<Item, AllocError>
-    ensures item { IfOk result (λ item. item ≡ rows_shown app.now table.now store.now) }
+fn rows_shown(opened: &App, alloc: Global, app: &Text, table: &Text) -> Result<Item, AllocError>
+    ensures item { IfOk result (λ item. item ≡ rows_shown app.now table.now opened.now.store) }
     ensures quiet { IfOk result (λ item. is_of_keeper item ≡ false) }
 {
+    let store = &opened.store;
     match store.schema().table(table.as_str()) {
         Some(place) => {
             let tables = store.board().tables();
@@ -137,7 +140,7 @@ fn rows_shown(store: &Store, alloc: Global, app: &Text, table: &Text) -> Result<
 
 /// The answer to a query: the ids of records, in their order.
 pub fn fetch(
-    apps: &[Store],
+    apps: &[App],
     alloc: Global,
     app: &Text,
     table: &Text,
@@ -153,7 +156,7 @@ pub fn fetch(
 }
 
 /// All rows of a table, those marked as deleted too.
-pub fn rows(apps: &[Store], alloc: Global, app: &Text, table: &Text) -> Result<Item, AllocError>
+pub fn rows(apps: &[App], alloc: Global, app: &Text, table: &Text) -> Result<Item, AllocError>
     ensures item { IfOk result (λ item. on_app as_kept apps.now app.now (looks as_kept (rows_shown app.now table.now)) ≡ Done (stepped apps.now item)) }
     ensures quiet { IfOk result (λ item. is_of_keeper item ≡ false) }
 {

@@ -1,11 +1,13 @@
 //! The printed refusals, made of faults. Want of memory is never printed.
-ghost use Rattle.std.specs.Prelude.{◌≡◌, ◌≢◌, ◌∷◌, [], IfOk};
-ghost use Rattle.melon_machine.specs.Refusals.{refused, app_refusal, schema_refusal, query_refusal, table_refusal, keeper_refusal, open_refusal, ops_refusal, record_refusal, column_refusal, batch_refusal, write_refusal};
+ghost use Rattle.std.specs.Prelude.{◌≡◌, ◌≢◌, ◌∷◌, [], IfOk, false};
+ghost use Rattle.melon_machine.specs.Refusals.{refused, app_refusal, schema_refusal, query_refusal, writer_refusal, holder_detail, queue_refusal, is_of_keeper, table_refusal, keeper_refusal, open_refusal, ops_refusal, record_refusal, column_refusal, batch_refusal, write_refusal};
 
 use melon_board::WriteFault;
 use melon_change::{BatchFault, OpsFault};
 use melon_outside::OpenFault;
 use melon_query::QueryFault;
+use melon_queue::QueueFault;
+use melon_raw::Id;
 use melon_schema::{List, SchemaFault, Text, Twin};
 use melon_script::{Detail, Group, Item};
 use std::alloc::{AllocError, Global};
@@ -94,6 +96,48 @@ pub fn ops_refusal(alloc: Global, fault: OpsFault) -> Result<Item, AllocError>
         OpsFault::Form { op } => numbered(alloc, Group::Ops, 1, op),
         OpsFault::Number { op } => numbered(alloc, Group::Ops, 2, op),
         OpsFault::Memory => Err(AllocError),
+    }
+}
+
+/// 4 a name outside the form of ids.
+pub fn writer_refusal(alloc: Global, writer: &Text) -> Result<Item, AllocError>
+    ensures item { IfOk result (λ item. item ≡ writer_refusal writer.now) }
+    ensures quiet { IfOk result (λ item. is_of_keeper item ≡ false) }
+{
+    let mut details = List::new(alloc);
+    details.push(Detail::Words(writer.copy(alloc)?))?;
+    Ok(refused(Group::Queue, 4, details))
+}
+
+/// The name that holds a queue, or nobody.
+fn holder_detail(alloc: Global, holder: &Option<Id>) -> Result<Detail, AllocError>
+    ensures { IfOk result (λ detail. detail ≡ holder_detail holder.now) }
+{
+    match holder {
+        Some(holder) => Ok(Detail::Words(Text::new(alloc, holder.as_str())?)),
+        None => Ok(Detail::Absent),
+    }
+}
+
+/// 1 already queued, 2 not the holder, 3 full.
+pub fn queue_refusal(alloc: Global, writer: &Text, fault: QueueFault) -> Result<Item, AllocError>
+    ensures item { IfOk result (λ item. item ≡ queue_refusal writer.now fault) }
+    ensures quiet { IfOk result (λ item. is_of_keeper item ≡ false) }
+    ensures memory { IfOk result (λ _. fault ≢ QueueFault.Memory) }
+{
+    match fault {
+        QueueFault::Queued => {
+            let mut details = List::new(alloc);
+            details.push(Detail::Words(writer.copy(alloc)?))?;
+            Ok(refused(Group::Queue, 1, details))
+        }
+        QueueFault::NotHolder { holder } => {
+            let mut details = List::new(alloc);
+            details.push(holder_detail(alloc, &holder)?)?;
+            Ok(refused(Group::Queue, 2, details))
+        }
+        QueueFault::Full { count } => numbered(alloc, Group::Queue, 3, count),
+        QueueFault::Memory => Err(AllocError),
     }
 }
 

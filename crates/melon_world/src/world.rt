@@ -6,10 +6,11 @@ ghost use Rattle.melon_machine.specs.State.{as_kept, none_open};
 ghost use Rattle.melon_machine.specs.Step.{step, stepped, ends_with};
 ghost use Rattle.melon_world.specs.Handled.{IsHandled};
 
+use crate::app::App;
 use crate::apps::{close, open};
+use crate::queueing::{enter, leave, nest};
 use crate::reading::{fetch, rows};
 use crate::writing::write;
-use melon_board::Store;
 use melon_outside::Keeper;
 use melon_script::{Answer, Item, Line};
 use std::alloc::{AllocError, Global};
@@ -18,14 +19,13 @@ use std::marker::Model;
 /// The machine: the open apps.
 #[derive(Drop)]
 pub struct World {
-    apps: Vec<Store>,
+    apps: Vec<App>,
 }
 
 impl Model for World {
-    ghost use Rattle.melon_board.specs.Stores.{SeenStore};
-    ghost use Rattle.melon_machine.specs.State.{State};
+    ghost use Rattle.melon_machine.specs.State.{KeptApp, State};
 
-    ghost Value = { State SeenStore };
+    ghost Value = { State KeptApp };
 
     ghost use Rattle.melon_world.specs.Inside.{world_in};
 
@@ -33,9 +33,9 @@ impl Model for World {
 }
 
 /// The item that a line prints.
-#[tactic(auto, unfolding(melon_machine::specs::Step::step))]
+#[tactic(auto, using(crate::proofs::Meeting::handled_quietly), unfolding(melon_machine::specs::Step::step))]
 fn take<K: Keeper>(
-    apps: &mut Vec<Store>,
+    apps: &mut Vec<App>,
     alloc: Global,
     keeper: &mut K,
     line: &Line,
@@ -45,7 +45,10 @@ fn take<K: Keeper>(
     match line {
         Line::Open { app, schema } => open(apps, alloc, keeper, app, schema),
         Line::Close { app } => close(apps, alloc, app),
-        Line::Write { app, ops } => write(apps, alloc, keeper, app, ops),
+        Line::Enter { app, writer } => enter(apps, alloc, app, writer),
+        Line::Nest { app, writer } => nest(apps, alloc, app, writer),
+        Line::Leave { app, writer } => leave(apps, alloc, app, writer),
+        Line::Write { app, ops, writer } => write(apps, alloc, keeper, app, ops, writer),
         Line::Fetch { app, table, query } => fetch(apps.as_slice(), alloc, app, table, query),
         Line::Rows { app, table } => rows(apps.as_slice(), alloc, app, table),
     }

@@ -1,13 +1,16 @@
+use Rattle.std.proofs.Common.{subst}
 use Rattle.melon_board.specs.Plans.{write_plan}
-use Rattle.melon_world.proofs.Written.{handled_ok, handled_err}
+use Rattle.melon_machine.specs.Refusals.{is_of_keeper}
+use Rattle.melon_machine.specs.State.{KeptApp, kept_app, as_kept}
+use Rattle.melon_machine.specs.Step.{writes_by, told}
+use Rattle.melon_world.specs.Handled.{IsHandled}
+use Rattle.melon_world.proofs.Written.{handled}
 use Rattle.melon_world.proofs.writing.write_ops.Goals as goal
 
-pub returns-in-Ok : goal.returns-in-Ok
-returns-in-Ok g c =
-    handled_ok (g.K.Keeper.holds c.args.keeper.now) (g.K.Keeper.holds c.write.new.keeper) (g.K.Keeper.faults c.args.keeper.now) (g.K.Keeper.faults c.write.new.keeper) c.args.app.now c.args.store.now (write_plan c.args.store.now c.args.ops)
-    c.write.new.self c.in_ok-name.name c.in-Ok.at c.in_ok-name.ensures c.in-Ok.ensures.written c.in-Ok.ensures.kept c.in-Ok.ensures.cause.later
-
-pub returns-in-Err : goal.returns-in-Err
-returns-in-Err g c =
-    handled_err (g.K.Keeper.holds c.args.keeper.now) (g.K.Keeper.holds c.write.new.keeper) (g.K.Keeper.faults c.args.keeper.now) (g.K.Keeper.faults c.write.new.keeper) c.args.app.now c.args.store.now (write_plan c.args.store.now c.args.ops)
-    c.write.new.self c.in-Err.fault c.write_refusal.result c.in-Err.ensures.written c.in-Err.ensures.kept c.in-Err.ensures.cause c.write_refusal.ensures.item c.write_refusal.ensures.memory
+pub returns : goal.returns
+returns g c =
+    let before = g.K.Keeper.holds c.args.keeper.now in let now = g.K.Keeper.holds c.write-done.new.keeper in let count = g.K.Keeper.faults c.args.keeper.now in let count' = g.K.Keeper.faults c.write-done.new.keeper in
+    let name = c.args.name.now in let ops = c.args.ops in let left = kept_app c.write-done.new.self c.app.inside.queue in
+    subst (λ (was : KeptApp). IsHandled (writes_by as_kept name was (write_plan was.store ops)) (told left) is_of_keeper before now count count' was left c.written_item.result) c.app.view_is
+    (handled before now count count' name (kept_app c.app.inside.store c.app.inside.queue) (write_plan c.app.inside.store ops) c.write-done.new.self c.in_ok-name.name c.write-done.result c.written_item.result
+    c.in_ok-name.ensures c.write-done.ensures.written c.write-done.ensures.kept c.write-done.ensures.cause c.written_item.ensures)
