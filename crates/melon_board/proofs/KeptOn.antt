@@ -122,14 +122,15 @@ entry_plan-is store e plan h =
     let b = bind_ok (within_limit SessionFull (journal_bytes store.schema.tables (with_entry store e).entries)) _ plan a.2 in
     same_ok (Ok (plan_of store e)) (plan_of store e) plan refl b.2
 
-module _ (store : SeenStore) (kept : Kept) (e : Entry) (formed : IsWellFormed store) (keeps : Keeps store kept) (legal : AreChanges store.schema.tables store.rows e.origin e.set) where
-  entry_formed : IsWellFormed (with_entry store e)
-  entry_formed = record {
-    names = formed.names;
-    tables = length_after store.rows e.set ∙ formed.tables;
-    rows = kept-after_set store.schema.tables store.rows e.set (now_of store.schema.tables store.rows e.origin e.set legal) formed.rows;
-  }
+-- an entry leaves the store well-formed
+entry_formed : (store : SeenStore) (e : Entry) → IsWellFormed store → AreChanges store.schema.tables store.rows e.origin e.set → IsWellFormed (with_entry store e)
+entry_formed store e formed legal = record {
+  names = formed.names;
+  tables = length_after store.rows e.set ∙ formed.tables;
+  rows = kept-after_set store.schema.tables store.rows e.set (now_of store.schema.tables store.rows e.origin e.set legal) formed.rows;
+}
 
+module _ (store : SeenStore) (kept : Kept) (e : Entry) (formed : IsWellFormed store) (keeps : Keeps store kept) (legal : AreChanges store.schema.tables store.rows e.origin e.set) where
   abbrev entry_batch : KeptBatch
   entry_batch = kept_batch store.schema.tables e.set
 
@@ -147,7 +148,7 @@ module _ (store : SeenStore) (kept : Kept) (e : Entry) (formed : IsWellFormed st
   }
 
   pub entry_kept : (plan : Plan) → entry_plan store e ≡ Ok plan → IsKeptAfter plan kept
-  entry_kept plan h = subst (λ (p : Plan). IsKeptAfter p kept) (entry_plan-is store e plan h) (record { formed = entry_formed; keeps = entry_keeps })
+  entry_kept plan h = subst (λ (p : Plan). IsKeptAfter p kept) (entry_plan-is store e plan h) (record { formed = entry_formed store e formed legal; keeps = entry_keeps })
 
 -- ---- change sets and batches
 
@@ -188,6 +189,16 @@ batch_planned store ops plan formed h =
 
 pub writes : WritesKeepRows
 writes store kept ops plan formed keeps h = let made = batch_planned store ops plan formed h in installs store kept Local made.0 plan formed keeps made.1 made.2
+
+-- a store stays well-formed, whatever is kept of it
+installed_formed : (store : SeenStore) (origin : Origin) (set : List Change) (plan : Plan) → IsWellFormed store → AreChanges store.schema.tables store.rows origin set → install_plan store origin set ≡ Ok plan → IsWellFormed plan.after
+installed_formed store origin [] plan formed legal h = subst (λ (p : Plan). IsWellFormed p.after) (same_plan store plan h) formed
+installed_formed store origin (c ∷ cs) plan formed legal h =
+    let e : Entry = record { origin = origin; set = c ∷ cs } in
+    subst (λ (p : Plan). IsWellFormed p.after) (entry_plan-is store e plan h) (entry_formed store e formed legal)
+
+pub written_formed : (store : SeenStore) (ops : List Op) (plan : Plan) → IsWellFormed store → write_plan store ops ≡ Ok plan → IsWellFormed plan.after
+written_formed store ops plan formed h = let made = batch_planned store ops plan formed h in installed_formed store Local made.0 plan formed made.1 made.2
 
 -- ---- a timestamp
 

@@ -1,5 +1,5 @@
 -- How far a run has come: what it printed, and the lines that it still takes.
-use Rattle.std.proofs.Common.{◌≡◌, ℕ, ◌+◌, ◌≤◌, List, [], ◌∷◌, ◌++◌, length, map, Bool, true, ◌⊎◌, inl, inr, refl, sym, ap, subst, ◌∙◌, append-nil, arith}
+use Rattle.std.proofs.Common.{◌≡◌, ℕ, ◌+◌, ◌≤◌, List, [], ◌∷◌, ◌++◌, length, map, Bool, true, false, ◌⊎◌, inl, inr, refl, sym, ap, subst, ◌∙◌, append-nil, arith}
 use Rattle.std.specs.Prelude.{Option, Some, None, Result, Ok}
 use Rattle.melon_outside.specs.Keeping.{Stores, AreSame}
 use Rattle.melon_outside.specs.Moves.{Grows, GrowsByFront}
@@ -12,11 +12,16 @@ use Rattle.melon_script.specs.Lines.{lines_of}
 use Rattle.melon_script.specs.Script.{forms_in, forms_of, bad_from, bad_line, IsLine, IsOutside}
 use Rattle.melon_script.specs.Printed.{answer_text}
 use Rattle.melon_machine.specs.Calls.{Calls, failures, RoseBy, Follows}
-use Rattle.melon_machine.specs.State.{App, KeptApp, State, kept_of, as_kept, none_open}
-use Rattle.melon_machine.specs.Step.{Stepped, ends_with}
+use Rattle.melon_machine.specs.State.{App, KeptApp, State, none_open}
+use Rattle.melon_machine.specs.Step.{Stepped, ends_with, step}
 use Rattle.melon_machine.specs.Run.{Ran, run, line_calls, ComesTo}
 use Rattle.melon_machine.proofs.Followed.{same_is, rose_more}
 use Rattle.melon_machine.proofs.Ran as machine
+use Rattle.melon_script.specs.Seen.{seen}
+use Rattle.melon_script.specs.Forms.{line_of}
+use Rattle.melon_script.specs.declared.item.Item.{Item}
+use Rattle.melon_machine.specs.Legal.{IsKeptAs}
+use Rattle.melon_world.specs.Handled.{MeetsAs}
 use Rattle.melon_cli.specs.Runs as runs
 use Rattle.melon_cli.specs.Runs.{RunsWhole, RanSoFar, RunsSoFar, RunsTo, Pends, PendsFront, Takes, IsUntouched}
 use Rattle.melon_cli.proofs.Fronts.{pends_all, pends_more, pends_written, pends_cut, pends_front, front_written, written_cut, front_written_cut}
@@ -24,7 +29,7 @@ use Rattle.melon_cli.proofs.Fronts.{pends_all, pends_more, pends_written, pends_
 -- The run has come to these lines, and the world has the stores of its apps.
 pub record At (script : List ℕ) (was m : Stores) (count count' : ℕ) (world : State KeptApp) (rest : List SeenLine) (Shows : List ℕ → Type 0) : Type 0 where
   pub so_far : RanSoFar script was m count count' rest Shows
-  pub same : kept_of so_far.now ≡ world
+  pub as_kept : IsKeptAs so_far.now world
 
 pub record Progress (script : List ℕ) (held holds : Stores → Type 0) (count count' : ℕ) (before after : Option (List ℕ)) (pending : List ℕ) (world : State KeptApp) (rest : List ℕ) (number : ℕ) : Type 0 where
   pub bad_is : bad_from number (lines_of rest) ≡ bad_line script
@@ -59,7 +64,7 @@ module _ (script : List ℕ) (held : Stores → Type 0) (count : ℕ) (before : 
           rose = omega arith;
           shows = pends_all before pending [] none;
         };
-        same = sym new;
+        as_kept = record { same = sym new; legal = tt };
       },
     );
   }
@@ -67,33 +72,34 @@ module _ (script : List ℕ) (held : Stores → Type 0) (count : ℕ) (before : 
   module _ (mid : Stores → Type 0) (between : ℕ) (written : Option (List ℕ)) (pending : List ℕ) (world : State KeptApp) (rest : List ℕ) (number : ℕ) (p : Progress script held mid count between before written pending world rest number)
       (bytes later : List ℕ) (is : lines_of rest ≡ bytes ∷ lines_of later) (holds : Stores → Type 0) (count' : ℕ) where
     -- one line more, however its text is shown
-    line_more : (world' : State KeptApp) (Shows Left : List ℕ → Type 0) → IsLine bytes → Takes (line_calls as_kept world bytes) world' mid holds between count' Shows
+    line_more : (world' : State KeptApp) (Shows Left : List ℕ → Type 0) → IsLine bytes → Takes (λ m. line_calls m bytes) world world' mid holds between count' Shows
         → ((printed text : List ℕ) → Pends before written pending printed → Shows text → Left (printed ++ text))
         → (m : Stores) → holds m → (was : Stores) × held was × At script was m count count' world' (forms_of (lines_of later)) Left
     line_more world' Shows Left line takes more m told =
         let t = takes m told in
         let g = p.goes t.0 t.1 in
         let at = g.2.so_far in
-        let o = machine.one_line_more script g.0 at.outcomes at.printed at.now t.0 bytes (lines_of later) t.2 world' t.3 m line
+        let f = t.4 at.now g.2.as_kept in
+        let o = machine.one_line_more script g.0 at.outcomes at.printed at.now t.0 bytes (lines_of later) f.0 world' t.2 m line
         (subst (λ (ls : List (List ℕ)). ComesTo script g.0 at.outcomes at.printed at.now t.0 (forms_of ls)) is at.comes)
-        (subst (λ (w : State KeptApp). Follows (line_calls as_kept w bytes) t.0 t.2 (ends_with world' t.3) m) (sym g.2.same) t.4) in (
+        f.1 g.2.as_kept.legal in (
           g.0,
           g.1,
           record {
             so_far = record {
-              outcomes = at.outcomes ++ t.2;
-              printed = at.printed ++ answer_text t.3;
+              outcomes = at.outcomes ++ f.0;
+              printed = at.printed ++ answer_text t.2;
               now = o.0;
               comes = o.2;
-              rose = rose_more at.outcomes t.2 count between count' at.rose t.5;
-              shows = more at.printed (answer_text t.3) at.shows t.6;
+              rose = rose_more at.outcomes f.0 count between count' at.rose f.2;
+              shows = more at.printed (answer_text t.2) at.shows t.3;
             };
-            same = o.1;
+            as_kept = o.1;
           },
         )
 
     pub after_line : (world' : State KeptApp) (after : Option (List ℕ)) (pending' : List ℕ) → IsLine bytes
-        → Takes (line_calls as_kept world bytes) world' mid holds between count' (λ text. Pends written after pending' (pending ++ text)) → Progress script held holds count count' before after pending' world' later (number + 1)
+        → Takes (λ m. line_calls m bytes) world world' mid holds between count' (λ text. Pends written after pending' (pending ++ text)) → Progress script held holds count count' before after pending' world' later (number + 1)
     after_line world' after pending' line takes = record {
       bad_is = sym (ap (bad_from number) is ∙ machine.bad_later number bytes (lines_of later) line) ∙ p.bad_is;
       goes = line_more world' (λ text. Pends written after pending' (pending ++ text)) (Pends before after pending') line takes
@@ -142,7 +148,7 @@ module _ (script : List ℕ) (held : Stores → Type 0) (count : ℕ) (before : 
 
     -- memory ran out before the text of the line was added
     pub stopped_after : (world' : State KeptApp) (after : Option (List ℕ)) (pending' : List ℕ) → IsUntouched written after pending pending' → IsLine bytes
-        → Takes (line_calls as_kept world bytes) world' mid holds between count' (λ _. Unit {0}) → RunsSoFar script held holds count count' (PendsFront before after pending')
+        → Takes (λ m. line_calls m bytes) world world' mid holds between count' (λ _. Unit {0}) → RunsSoFar script held holds count count' (PendsFront before after pending')
     stopped_after world' after pending' u line takes m told =
         let l = line_more world' (λ _. Unit {0}) (PendsFront before after pending') line takes
         (λ printed text shown _. subst (λ (a : Option (List ℕ)). PendsFront before a pending' (printed ++ text)) (sym u.0)
@@ -150,13 +156,13 @@ module _ (script : List ℕ) (held : Stores → Type 0) (count : ℕ) (before : 
         (l.0, l.1, forms_of (lines_of later), l.2.so_far)
 
     pub stopped : (world' : State KeptApp) (after : Option (List ℕ)) (pending' : List ℕ) → IsUntouched written after pending pending' → between ≤ count'
-        → HoldsAsBefore mid holds ⊎ (IsLine bytes × Takes (line_calls as_kept world bytes) world' mid holds between count' (λ _. Unit {0})) → RunsSoFar script held holds count count' (PendsFront before after pending')
+        → HoldsAsBefore mid holds ⊎ (IsLine bytes × Takes (λ m. line_calls m bytes) world world' mid holds between count' (λ _. Unit {0})) → RunsSoFar script held holds count count' (PendsFront before after pending')
     stopped world' after pending' u rose (inl as_before) = stopped_before after pending' u as_before rose
     stopped world' after pending' u rose (inr taken) = stopped_after world' after pending' u taken.0 taken.1
 
     -- the output failed
     pub cut_short : (world' : State KeptApp) (after : Option (List ℕ)) → IsLine bytes
-        → Takes (line_calls as_kept world bytes) world' mid holds between count' (λ text. GrowsByFront written after (pending ++ text)) → RunsSoFar script held holds count count' (GrowsByFront before after)
+        → Takes (λ m. line_calls m bytes) world world' mid holds between count' (λ text. GrowsByFront written after (pending ++ text)) → RunsSoFar script held holds count count' (GrowsByFront before after)
     cut_short world' after line takes m told =
         let l = line_more world' (λ text. GrowsByFront written after (pending ++ text)) (GrowsByFront before after) line takes
         (λ printed text shown cut. pends_cut before written after pending printed text [] (printed ++ text) shown cut (append-nil (printed ++ text))) m told in
@@ -212,14 +218,36 @@ module _ (script : List ℕ) (held : Stores → Type 0) (count : ℕ) (before : 
 
 -- a blank line asks nothing of the keeper and prints nothing
 pub takes_blank : (world : State KeptApp) (bytes : List ℕ) (read : Option Line) (holds : Stores → Type 0) (count : ℕ) (before : Option (List ℕ)) (pending : List ℕ) → ReadsLine bytes (Ok read) → read ≡ None
-    → Takes (line_calls as_kept world bytes) world holds holds count count (λ text. Pends before before pending (pending ++ text))
+    → Takes (λ m. line_calls m bytes) world world holds holds count count (λ text. Pends before before pending (pending ++ text))
 takes_blank world bytes read holds count before pending h none m told =
     let blank : is_blank bytes ≡ true = subst (λ (r : Option Line). ReadsLine bytes (Ok r)) none h in (
       m,
       told,
       [],
-      [],
-      subst (λ (calls : Calls (Stepped KeptApp)). Follows calls m [] (ends_with world []) m) (machine.calls_of_blank world bytes blank) (refl, refl, λ name. refl),
-      omega arith,
       pends_all before pending (pending ++ []) (sym (append-nil pending)),
+      λ app_machine as_kept. (
+        [],
+        subst (λ (calls : Calls (Stepped KeptApp)). Follows calls m [] (ends_with world []) m) (machine.calls_of_blank app_machine bytes blank) (refl, ap (λ (w : State KeptApp). ends_with w []) as_kept.same, λ name. refl),
+        omega arith,
+      ),
     )
+
+-- a line that was read
+pub takes_line : (world left : State KeptApp) (bytes : List ℕ) (read : Option Line) (line : Line) (held holds : Stores → Type 0) (count count' : ℕ) (Shows : List ℕ → Type 0) → ReadsLine bytes (Ok read) → read ≡ Some line
+    → Takes (λ m. step m (seen line)) world left held holds count count' Shows → Takes (λ m. line_calls m bytes) world left held holds count count' Shows
+takes_line world left bytes read line held holds count count' Shows h some takes m told =
+    let is : (is_blank bytes ≡ false) × (line_of bytes ≡ Some (seen line)) = subst (λ (r : Option Line). ReadsLine bytes (Ok r)) some h in
+    let t = takes m told in (
+      t.0,
+      t.1,
+      t.2,
+      t.3,
+      λ app_machine as_kept.
+          let f = t.4 app_machine as_kept in
+          (f.0, subst (λ (calls : Calls (Stepped KeptApp)). Follows calls t.0 f.0 (ends_with left t.2) m) (machine.calls_of_line app_machine bytes (seen line) is.0 is.1) f.1, f.2),
+    )
+
+-- a step whose text is shown so
+pub takes_step : (calls : State App → Calls (Stepped App)) (was now : State KeptApp) (held holds : Stores → Type 0) (count count' : ℕ) (items : List Item) (Shows : List ℕ → Type 0) → MeetsAs calls was held holds count count' (ends_with now items) → Shows (answer_text items)
+    → Takes calls was now held holds count count' Shows
+takes_step calls was now held holds count count' items Shows met shows m told = (let t = met m told in (t.0, t.1, items, shows, t.2))

@@ -9,8 +9,9 @@ use Rattle.melon_script.specs.Script.{bad_line, IsLine}
 use Rattle.melon_script.specs.Printed.{answer_text}
 use Rattle.melon_script.specs.declared.item.Item.{Item}
 use Rattle.melon_machine.specs.Calls.{Calls, failures, RoseBy, Follows}
-use Rattle.melon_machine.specs.State.{App, KeptApp, State, as_kept}
-use Rattle.melon_machine.specs.Step.{Stepped, ends_with}
+use Rattle.melon_machine.specs.Legal.{IsKeptAs}
+use Rattle.melon_machine.specs.State.{App, KeptApp, State}
+use Rattle.melon_machine.specs.Step.{Stepped, ends_with, kept_calls}
 use Rattle.melon_machine.specs.Run.{run, line_calls, ComesTo}
 
 -- the words of a run
@@ -83,10 +84,11 @@ RunsTo script held holds faults_before faults_now rest Shows =
 
 -- ---- a line
 
--- The machine made these calls and is left so, and the items are shown so.
-abbrev pub Takes : Calls (Stepped KeptApp) → State KeptApp → (Stores → Type 0) → (Stores → Type 0) → ℕ → ℕ → (List ℕ → Type 0) → Type 0
-Takes calls now held holds faults_before faults_now Shows =
-    (m : Stores) → holds m → (mid : Stores) × held mid × (used : List Bool) × (items : List Item) × Follows calls mid used (ends_with now items) m × RoseBy (failures used) faults_before faults_now × Shows (answer_text items)
+-- The items are shown so, and every machine that the code had so made these calls and is left so.
+abbrev pub Takes : (State App → Calls (Stepped App)) → State KeptApp → State KeptApp → (Stores → Type 0) → (Stores → Type 0) → ℕ → ℕ → (List ℕ → Type 0) → Type 0
+Takes calls was now held holds faults_before faults_now Shows =
+    (m : Stores) → holds m → (mid : Stores) × held mid × (items : List Item) × Shows (answer_text items) × ((machine : State App) → IsKeptAs machine was
+    → (used : List Bool) × Follows (kept_calls (calls machine)) mid used (ends_with now items) m × RoseBy (failures used) faults_before faults_now)
 
 -- nothing was added to what is written or pending
 abbrev pub IsUntouched : Option (List ℕ) → Option (List ℕ) → List ℕ → List ℕ → Type 0

@@ -6,16 +6,17 @@ ghost use Rattle.melon_board.specs.Carried.{HoldsAsBefore};
 ghost use Rattle.melon_script.specs.Script.{bad_line, IsLine, IsOutside};
 ghost use Rattle.melon_script.specs.Seen.{seen};
 ghost use Rattle.melon_machine.specs.Run.{line_calls};
-ghost use Rattle.melon_machine.specs.State.{as_kept};
 ghost use Rattle.melon_machine.specs.Step.{step};
 ghost use Rattle.melon_cli.specs.Runs.{Pends, PendsFront, RunsTo, RunsSoFar, Takes, IsUntouched};
 
 use crate::pending::{PutFault, put};
 use crate::status::Status;
 use melon_outside::{Keeper, Sink};
+use melon_raw::Steps;
 use melon_script::{Line, LineFault, next_line, print};
 use melon_world::World;
 use std::alloc::{AllocError, Global};
+use std::sync::ledger::Ledger;
 
 /// Why a line was not taken, or not whole.
 #[derive(Clone, Copy, Debug, PartialEq, Eq)]
@@ -38,24 +39,25 @@ impl From<AllocError> for LineStop {
 }
 
 /// Steps the machine by a line, and adds what it prints to what is pending.
-fn step_line<W: Sink, K: Keeper>(
+fn step_line<W: Sink, K: Keeper, N: Ledger>(
     world: &mut World,
     alloc: Global,
     keeper: &mut K,
     output: &mut W,
     pending: &mut Vec<u8>,
     line: &Line,
+    steps: &mut Steps<N>,
 ) -> Result<(), LineStop>
-    ensures ok { OnOk result (Takes (step as_kept world.old (seen line.now)) world.new (K.holds keeper.old) (K.holds keeper.new) (K.faults keeper.old) (K.faults keeper.new) (λ text. Pends (W.written output.old) (W.written output.new) pending.new.items (pending.old.items ++ text))) }
+    ensures ok { OnOk result (Takes (λ m. step m (seen line.now)) world.old world.new (K.holds keeper.old) (K.holds keeper.new) (K.faults keeper.old) (K.faults keeper.new) (λ text. Pends (W.written output.old) (W.written output.new) pending.new.items (pending.old.items ++ text))) }
     ensures untouched { IsErrOf result LineStop.Memory → IsUntouched (W.written output.old) (W.written output.new) pending.old.items pending.new.items }
-    ensures memory { IsErrOf result LineStop.Memory → HoldsAsBefore (K.holds keeper.old) (K.holds keeper.new) ⊎ Takes (step as_kept world.old (seen line.now)) world.new (K.holds keeper.old) (K.holds keeper.new) (K.faults keeper.old) (K.faults keeper.new) (λ _. Unit {0}) }
-    ensures failed { IsErrOf result LineStop.Failed → Takes (step as_kept world.old (seen line.now)) world.new (K.holds keeper.old) (K.holds keeper.new) (K.faults keeper.old) (K.faults keeper.new) (λ text. GrowsByFront (W.written output.old) (W.written output.new) (pending.old.items ++ text)) }
+    ensures memory { IsErrOf result LineStop.Memory → HoldsAsBefore (K.holds keeper.old) (K.holds keeper.new) ⊎ Takes (λ m. step m (seen line.now)) world.old world.new (K.holds keeper.old) (K.holds keeper.new) (K.faults keeper.old) (K.faults keeper.new) (λ _. Unit {0}) }
+    ensures failed { IsErrOf result LineStop.Failed → Takes (λ m. step m (seen line.now)) world.old world.new (K.holds keeper.old) (K.holds keeper.new) (K.faults keeper.old) (K.faults keeper.new) (λ text. GrowsByFront (W.written output.old) (W.written output.new) (pending.old.items ++ text)) }
     ensures cause { IsErrOf result LineStop.Failed → Rose (W.faults output.old) (W.faults output.new) }
     ensures outside { IsErrOf result LineStop.Outside → ⊥ }
     ensures keeper_later { K.faults keeper.old ≤ K.faults keeper.new }
     ensures output_later { W.faults output.old ≤ W.faults output.new }
 {
-    let answer = world.step(alloc, keeper, line)?;
+    let answer = world.step(alloc, keeper, line, steps)?;
     let text = print(alloc, &answer)?;
     match put(output, pending, text.as_slice()) {
         Ok(()) => Ok(()),
@@ -65,19 +67,20 @@ fn step_line<W: Sink, K: Keeper>(
 }
 
 /// Takes a line of bytes.
-fn take_line<W: Sink, K: Keeper>(
+fn take_line<W: Sink, K: Keeper, N: Ledger>(
     world: &mut World,
     alloc: Global,
     keeper: &mut K,
     output: &mut W,
     pending: &mut Vec<u8>,
     bytes: &[u8],
+    steps: &mut Steps<N>,
 ) -> Result<(), LineStop>
     ensures line { OnOk result (IsLine bytes.now) }
-    ensures ok { OnOk result (Takes (line_calls as_kept world.old bytes.now) world.new (K.holds keeper.old) (K.holds keeper.new) (K.faults keeper.old) (K.faults keeper.new) (λ text. Pends (W.written output.old) (W.written output.new) pending.new.items (pending.old.items ++ text))) }
+    ensures ok { OnOk result (Takes (λ m. line_calls m bytes.now) world.old world.new (K.holds keeper.old) (K.holds keeper.new) (K.faults keeper.old) (K.faults keeper.new) (λ text. Pends (W.written output.old) (W.written output.new) pending.new.items (pending.old.items ++ text))) }
     ensures untouched { IsErrOf result LineStop.Memory → IsUntouched (W.written output.old) (W.written output.new) pending.old.items pending.new.items }
-    ensures memory { IsErrOf result LineStop.Memory → HoldsAsBefore (K.holds keeper.old) (K.holds keeper.new) ⊎ (IsLine bytes.now × Takes (line_calls as_kept world.old bytes.now) world.new (K.holds keeper.old) (K.holds keeper.new) (K.faults keeper.old) (K.faults keeper.new) (λ _. Unit {0})) }
-    ensures failed { IsErrOf result LineStop.Failed → IsLine bytes.now × Takes (line_calls as_kept world.old bytes.now) world.new (K.holds keeper.old) (K.holds keeper.new) (K.faults keeper.old) (K.faults keeper.new) (λ text. GrowsByFront (W.written output.old) (W.written output.new) (pending.old.items ++ text)) }
+    ensures memory { IsErrOf result LineStop.Memory → HoldsAsBefore (K.holds keeper.old) (K.holds keeper.new) ⊎ (IsLine bytes.now × Takes (λ m. line_calls m bytes.now) world.old world.new (K.holds keeper.old) (K.holds keeper.new) (K.faults keeper.old) (K.faults keeper.new) (λ _. Unit {0})) }
+    ensures failed { IsErrOf result LineStop.Failed → IsLine bytes.now × Takes (λ m. line_calls m bytes.now) world.old world.new (K.holds keeper.old) (K.holds keeper.new) (K.faults keeper.old) (K.faults keeper.new) (λ text. GrowsByFront (W.written output.old) (W.written output.new) (pending.old.items ++ text)) }
     ensures cause { IsErrOf result LineStop.Failed → Rose (W.faults output.old) (W.faults output.new) }
     ensures outside { IsErrOf result LineStop.Outside → IsOutside bytes.now × IsUntouched (W.written output.old) (W.written output.new) pending.old.items pending.new.items × HoldsAsBefore (K.holds keeper.old) (K.holds keeper.new) }
     ensures keeper_later { K.faults keeper.old ≤ K.faults keeper.new }
@@ -85,19 +88,20 @@ fn take_line<W: Sink, K: Keeper>(
 {
     match Line::read(alloc, bytes) {
         Ok(None) => Ok(()),
-        Ok(Some(line)) => step_line(world, alloc, keeper, output, pending, &line),
+        Ok(Some(line)) => step_line(world, alloc, keeper, output, pending, &line, steps),
         Err(LineFault::Form) => Err(LineStop::Outside),
         Err(LineFault::Memory) => Err(LineStop::Memory),
     }
 }
 
 /// Takes the lines of a script in order, and prints what each gives.
-pub fn run_lines<W: Sink, K: Keeper>(
+pub fn run_lines<W: Sink, K: Keeper, N: Ledger>(
     alloc: Global,
     script: &[u8],
     output: &mut W,
     keeper: &mut K,
     pending: &mut Vec<u8>,
+    steps: &mut Steps<N>,
 ) -> Status
     requires short { length script.now < 2 ^ 63 }
     requires none { pending.old.items ≡ [] }
@@ -117,7 +121,7 @@ pub fn run_lines<W: Sink, K: Keeper>(
     while !rest.is_empty() {
         let (bytes, later) = next_line(rest);
         number += 1;
-        match take_line(&mut world, alloc, keeper, output, pending, bytes) {
+        match take_line(&mut world, alloc, keeper, output, pending, bytes, steps) {
             Ok(()) => rest = later,
             Err(LineStop::Outside) => return Status::BadScript { line: number },
             Err(LineStop::Memory) => return Status::Memory,

@@ -9,7 +9,11 @@ use crate::lines::run_lines;
 use crate::pending::flush;
 use crate::status::Status;
 use melon_outside::{Failed, Keeper, ReadFault, Sink, Source, read_all};
+use melon_raw::Steps;
+use melon_raw::steps::new_counter;
 use std::alloc::Global;
+use std::marker::Brand;
+use std::sync::ledger::{Blank, Ledger};
 
 /// The most bytes of a script.
 const LONGEST_SCRIPT: usize = 16777216;
@@ -18,6 +22,37 @@ fn is_run(words: &[String]) -> bool
     ensures { IsTrue result ↔ IsRun words.now }
 {
     words.len() == 1 && words[0].as_str() == "run"
+}
+
+fn run_counted<W: Sink, K: Keeper, N: Ledger>(
+    alloc: Global,
+    script: &[u8],
+    output: &mut W,
+    keeper: &mut K,
+    counter: Blank,
+) -> Status
+    requires name { counter.name ≡ N.name }
+    requires parts { counter.parts ≡ N.parts }
+    requires shared { 0 < counter.parts }
+    requires short { length script.now < 2 ^ 63 }
+    ensures done { result ≡ Status.Done → (bad_line script.now ≡ None) × RunsWhole script.now (K.holds keeper.old) (K.holds keeper.new) (W.written output.old) (W.written output.new) (K.faults keeper.old) (K.faults keeper.new) }
+    ensures bad_script { (line : ℕ) → result ≡ Status.BadScript line → (bad_line script.now ≡ Some line) × RunsWhole script.now (K.holds keeper.old) (K.holds keeper.new) (W.written output.old) (W.written output.new) (K.faults keeper.old) (K.faults keeper.new) }
+    ensures memory { result ≡ Status.Memory → RunsSoFar script.now (K.holds keeper.old) (K.holds keeper.new) (K.faults keeper.old) (K.faults keeper.new) (GrowsByFront (W.written output.old) (W.written output.new)) }
+    ensures write_fault { result ≡ Status.WriteFault → Rose (W.faults output.old) (W.faults output.new) × RunsSoFar script.now (K.holds keeper.old) (K.holds keeper.new) (K.faults keeper.old) (K.faults keeper.new) (GrowsByFront (W.written output.old) (W.written output.new)) }
+    ensures keeper_later { K.faults keeper.old ≤ K.faults keeper.new }
+    ensures words { result ≢ Status.BadWords }
+    ensures read_fault { result ≢ Status.ReadFault }
+    ensures too_long { result ≢ Status.TooLong }
+{
+    let mut steps = Steps::<N>::open(counter);
+    let mut pending = Vec::new(alloc);
+    match run_lines(alloc, script, output, keeper, &mut pending, &mut steps) {
+        Status::WriteFault => Status::WriteFault,
+        ended => match flush(output, &mut pending) {
+            Ok(()) => ended,
+            Err(Failed) => Status::WriteFault,
+        },
+    }
 }
 
 /// Runs a script, and writes all that it prints.
@@ -37,14 +72,7 @@ fn run_script<W: Sink, K: Keeper>(
     ensures read_fault { result ≢ Status.ReadFault }
     ensures too_long { result ≢ Status.TooLong }
 {
-    let mut pending = Vec::new(alloc);
-    match run_lines(alloc, script, output, keeper, &mut pending) {
-        Status::WriteFault => Status::WriteFault,
-        ended => match flush(output, &mut pending) {
-            Ok(()) => ended,
-            Err(Failed) => Status::WriteFault,
-        },
-    }
+    run_counted::<W, K, Brand>(alloc, script, output, keeper, new_counter())
 }
 
 /// The program: `run` reads a script of at most 16777216 bytes to its end, takes its lines in order, writes what they

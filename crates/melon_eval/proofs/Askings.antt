@@ -56,6 +56,15 @@ pub seen_push : (asks : List Ask) (ask : Ask) → seen_asks (asks ++ ask ∷ [])
 seen_push [] ask = refl
 seen_push (a ∷ asks) ask = ap (λ l. seen_ask a ∷ l) (seen_push asks ask)
 
+-- an `on` more
+pub on_more : (old new : List Ask) (table : ℕ) (join : Join) (c : Cond) (ask : Ask) (parts : List Cond) → c ≡ cond.On table join parts → new ≡ old ++ ask ∷ [] → ask.table ≡ table → ask.conds.now ≡ parts
+    → seen_asks new ≡ seen_asks old ++ (read c).asks
+on_more old new table join c ask parts is added same_table same_parts =
+    ap seen_asks added ∙ seen_push old ask
+    ∙ ap (λ (t : ℕ). seen_asks old ++ record { table = t; parts = map holds ask.conds.now } ∷ []) same_table
+    ∙ ap (λ (ps : List Cond). seen_asks old ++ record { table = table; parts = map holds ps } ∷ []) same_parts
+    ∙ sym (ap (λ (asked : List Asked). seen_asks old ++ asked) (ap (λ (d : Cond). (read d).asks) is ∙ asks-On table join parts))
+
 -- ---- one condition more
 
 asks_of-append : (xs ys : List Cond) → asks_of (xs ++ ys) ≡ asks_of xs ++ asks_of ys

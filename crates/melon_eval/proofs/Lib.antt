@@ -2,6 +2,7 @@ pub mod Answering
 pub mod Askings
 pub mod Covered
 pub mod Covers
+pub mod Filling
 pub mod Grouping
 pub mod Joining
 pub mod Keeping
@@ -12,6 +13,8 @@ pub mod Ordering
 pub mod Paging
 pub mod Patterns
 pub mod Planning
+pub mod Projecting
+pub mod Selecting
 pub mod Sorting
 pub mod Steps
 pub mod Substrings

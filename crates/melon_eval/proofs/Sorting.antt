@@ -16,7 +16,7 @@ use Rattle.melon_query.specs.Order.{placed, in_order}
 
 module _ {X : Type 0} (lt : X → X → Bool) (o : IsStrictWeakOrder lt) where
   -- none is less than one before it
-  abbrev Ascends : List X → Type 0
+  abbrev pub Ascends : List X → Type 0
   Ascends [] = ⊤
   Ascends (x ∷ xs) = AllByRecursion (λ y. lt y x ≡ false) xs × Ascends xs
 
@@ -118,7 +118,7 @@ module _ {X : Type 0} (lt : X → X → Bool) (o : IsStrictWeakOrder lt) where
   ascends_placed x [] up = (tt, tt)
   ascends_placed x (y ∷ ys) up = ascends_placed_by x y ys up (ascends_placed x ys up.1) (lt y x) refl
 
-  ascends_in_order : (xs : List X) → Ascends (in_order lt xs)
+  pub ascends_in_order : (xs : List X) → Ascends (in_order lt xs)
   ascends_in_order [] = tt
   ascends_in_order (x ∷ xs) = ascends_placed x (in_order lt xs) (ascends_in_order xs)
 
@@ -172,7 +172,7 @@ module _ {X Y : Type 0} (f : X → Y) (lt : Y → Y → Bool) where
   map_placed_by x y ys h true = ap (λ l. f y ∷ l) h
   map_placed_by x y ys h false = refl
 
-  map_placed : (x : X) (ys : List X) → map f (placed (λ a b. lt (f a) (f b)) x ys) ≡ placed lt (f x) (map f ys)
+  pub map_placed : (x : X) (ys : List X) → map f (placed (λ a b. lt (f a) (f b)) x ys) ≡ placed lt (f x) (map f ys)
   map_placed x [] = refl
   map_placed x (y ∷ ys) = map_placed_by x y ys (map_placed x ys) (lt (f y) (f x))
 

@@ -13,3 +13,6 @@ module _ {X : Type 0} (xs : List X) (i : ℕ) (x : X) (here : i < length xs) (is
 -- the element that was read at a place
 pub taken_at : {X : Type 0} (xs : List X) (i : ℕ) (x : X) → slice_get xs i ≡ Some x → take (i + 1) xs ≡ take i xs ++ x ∷ []
 taken_at xs i x e = taken xs i x (slice_get_within xs i x e) (sym (get_or_from_slice_get xs i x x e))
+
+pub splits_at : {X : Type 0} (xs : List X) (i : ℕ) (x : X) → slice_get xs i ≡ Some x → drop i xs ≡ x ∷ drop (i + 1) xs
+splits_at xs i x e = splits xs i x (slice_get_within xs i x e) (sym (get_or_from_slice_get xs i x x e))

@@ -9,3 +9,4 @@ pub mod Grouped
 pub mod Sources
 pub mod Planned
 pub mod Pages
+pub mod Projected

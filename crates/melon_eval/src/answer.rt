@@ -9,6 +9,7 @@ ghost use Rattle.melon_eval.specs.Pages.{page_of, ordered, is_filled, IsLimit};
 
 use crate::lookup::table_at;
 use crate::plan::{Plan, Scratch, is_chosen, plan_of};
+use crate::select::first_rows;
 use crate::sort::sort_rows;
 use melon_query::Query;
 use melon_raw::{Id, Raw, Steps};
@@ -16,6 +17,9 @@ use melon_schema::{List, Twin};
 use melon_table::{Table, Tables};
 use std::alloc::{AllocError, Global};
 use std::sync::ledger::Ledger;
+
+/// So many rows are kept in order one after another; more are sorted.
+const FEW: u64 = 1000;
 
 fn is_full(rows: &[&Raw], most: Option<u64>) -> bool
     ensures { result ≡ is_filled most (length rows.now) }
@@ -80,6 +84,22 @@ fn limit(query: &Query) -> Option<u64>
     }
 }
 
+/// That limit, where it is small enough to keep the rows in order one after another.
+fn small_limit(query: &Query) -> Option<usize>
+    ensures { IsLimit query.now result }
+{
+    match limit(query) {
+        Some(most) => {
+            if most <= FEW {
+                Some(most as usize)
+            } else {
+                None
+            }
+        }
+        None => None,
+    }
+}
+
 /// The rows that are chosen, in order, or no fewer of them than are asked for.
 fn ordered_rows<'a, L: Ledger>(
     alloc: Global,
@@ -93,8 +113,12 @@ fn ordered_rows<'a, L: Ledger>(
     if query.sort.is_empty() {
         return chosen_rows(alloc, plan, table, limit(query), steps);
     }
+    let keys = query.sort.as_slice();
+    if let Some(most) = small_limit(query) {
+        return first_rows(alloc, plan, keys, table, most, steps);
+    }
     let mut rows = chosen_rows(alloc, plan, table, None, steps)?;
-    sort_rows(&mut rows, query.sort.as_slice())?;
+    sort_rows(&mut rows, keys)?;
     Ok(rows)
 }
 

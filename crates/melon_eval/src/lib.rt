@@ -9,6 +9,8 @@ mod like;
 mod lookup;
 mod matching;
 mod plan;
+mod projection;
+mod select;
 mod sort;
 mod sources;
 mod truth;
@@ -16,4 +18,6 @@ mod value;
 mod walk;
 
 pub use answer::run;
+pub use lookup::row_of;
 pub use matching::matches;
+pub use projection::{Shown, project};

@@ -90,10 +90,7 @@ pub fn is_chosen<'s, 'a, L: Ledger>(
         &mut scratch.offers,
         steps,
     )?;
-    some_offered(
-        parts.joining.as_slice(),
-        main,
-        &mut scratch.members,
-        scratch.offers.as_slice(),
-    )
+    let joining = parts.joining.as_slice();
+    let offers = scratch.offers.as_slice();
+    some_offered(joining, main, &mut scratch.members, offers)
 }

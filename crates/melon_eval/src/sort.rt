@@ -34,6 +34,13 @@ fn compare_rows(keys: &[SortKey], a: &Raw, b: &Raw) -> Ordering
     a.id.as_str().cmp(b.id.as_str())
 }
 
+/// Whether a row comes before another.
+pub fn comes_before(keys: &[SortKey], a: &Raw, b: &Raw) -> bool
+    ensures { result ≡ comes_before keys.now a.now b.now }
+{
+    compare_rows(keys, a, b).is_lt()
+}
+
 /// Puts rows in the order of an answer.
 pub fn sort_rows(rows: &mut Vec<&Raw>, keys: &[SortKey]) -> Result<(), AllocError>
     ensures { OnOk result (rows_at rows.new.items ≡ in_order (comes_before keys.now) (rows_at rows.old.items)) }

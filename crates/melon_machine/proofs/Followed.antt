@@ -35,7 +35,7 @@ pub follow_exact : {X : Type 0} (calls : Calls X) (was : Stores) (used : List Bo
     → follow calls was (used ++ later) ≡ record { value = x; kept = now; left = later }
 follow_exact (Done x) was used y now later h = λ i. record { value = h.1 i; kept = sym (same_is now was h.2) i; left = ap (λ (u : List Bool). u ++ later) h.0 i }
 follow_exact (Load name does) was [] y now later h = absurd h
-follow_exact (Load name does) was (true ∷ used) y now later h = follow_exact (does (Some (was name))) was used y now later h
+follow_exact (Load name does) was (true ∷ used) y now later h = follow_exact (does (Some (was name))) was used y now later h.1
 follow_exact (Load name does) was (false ∷ used) y now later h = follow_exact (does None) was used y now later h
 follow_exact (Commit name batch does) was [] y now later h = absurd h
 follow_exact (Commit name batch does) was (true ∷ used) y now later h = follow_exact (does true) (after_batch name batch was) used y now later h
@@ -46,7 +46,7 @@ pub follows_end : {X Y : Type 0} (f : X → Y) (calls : Calls X) (was : Stores) 
     → (x : X) × (f x ≡ y) × Follows calls was used x now
 follows_end f (Done x) was used y now h = (x, h.1, (h.0, refl, h.2))
 follows_end f (Load name does) was [] y now h = absurd h
-follows_end f (Load name does) was (true ∷ used) y now h = follows_end f (does (Some (was name))) was used y now h
+follows_end f (Load name does) was (true ∷ used) y now h = (let end = follows_end f (does (Some (was name))) was used y now h.1 in (end.0, end.1, (h.0, end.2)))
 follows_end f (Load name does) was (false ∷ used) y now h = follows_end f (does None) was used y now h
 follows_end f (Commit name batch does) was [] y now h = absurd h
 follows_end f (Commit name batch does) was (true ∷ used) y now h = follows_end f (does true) (after_batch name batch was) used y now h

@@ -1,6 +1,6 @@
 -- An app with its history grows as its store does.
-use Rattle.std.proofs.Common.{◌≡◌, ℕ, List, [], ◌∷◌, ◌++◌, refl, ap, sym, ◌∙◌, subst, arith}
-use Rattle.std.specs.Prelude.{Result, Ok, Err, Some}
+use Rattle.std.proofs.Common.{◌≡◌, ℕ, List, [], ◌∷◌, ◌++◌, append-nil, refl, ap, sym, ◌∙◌, subst, arith}
+use Rattle.std.specs.Prelude.{Result, Ok, Err, Some, None}
 use Rattle.melon_raw.specs.Rows.{Rows}
 use Rattle.melon_schema.specs.Seen.{SeenSchema}
 use Rattle.melon_outside.specs.declared.kept.Kept.{Kept}
@@ -46,27 +46,33 @@ value_or d (Err e) = d
 of_ok : {B E : Type 0} {x y : B} (r : Result B E) → r ≡ Ok x → r ≡ Ok y → x ≡ y
 of_ok {B} {E} {x} {y} r h k = sym (ap (value_or x) h) ∙ ap (value_or x) k
 
-module _ (app : App) where
-  -- the app grown to the store of a plan has that store
-  abbrev pub GrowsTo : Plan → Type 0
-  GrowsTo plan = store_of (grown_to app plan.after) ≡ plan.after
-
-  grows_entry : (e : Entry) (plan : Plan) → entry_plan (store_of app) e ≡ Ok plan → GrowsTo plan
+-- what holds of the plan of each entry, and of the plan to do nothing, holds of every plan of a batch
+module _ (app : App) (P : Plan → Type 0) (entry : (e : Entry) → P (record { batch = Some (kept_batch app.schema.tables e.set); after = with_entry (store_of app) e })) (none : P (record { batch = None; after = store_of app })) where
+  planned_entry : (e : Entry) (plan : Plan) → entry_plan (store_of app) e ≡ Ok plan → P plan
   unfolding entry_plan
-  grows_entry e plan is =
+  planned_entry e plan is =
       let store = store_of app in
-      chained GrowsTo (within_limit StoreFull (stored_bytes store.schema.tables (after_set store.rows e.set)))
+      chained P (within_limit StoreFull (stored_bytes store.schema.tables (after_set store.rows e.set)))
       (λ _. within_limit SessionFull (journal_bytes store.schema.tables (store.entries ++ e ∷ [])) >>= λ _. Ok (record { batch = Some (kept_batch store.schema.tables e.set); after = with_entry store e }))
-      (λ _ y at. chained GrowsTo (within_limit SessionFull (journal_bytes store.schema.tables (store.entries ++ e ∷ [])))
+      (λ _ y at. chained P (within_limit SessionFull (journal_bytes store.schema.tables (store.entries ++ e ∷ [])))
       (λ _. Ok (record { batch = Some (kept_batch store.schema.tables e.set); after = with_entry store e }))
-      (λ _ z same. subst GrowsTo (of_ok _ refl same) (grown_entry app e)) y at) plan is
+      (λ _ z same. subst P (of_ok _ refl same) (entry e)) y at) plan is
 
-  grows_installed : (origin : Origin) (set : List Change) (plan : Plan) → install_plan (store_of app) origin set ≡ Ok plan → GrowsTo plan
-  grows_installed origin [] plan is = subst GrowsTo (of_ok _ refl is) refl
-  grows_installed origin (c ∷ cs) plan is = grows_entry (record { origin = origin; set = c ∷ cs }) plan is
+  planned_install : (origin : Origin) (set : List Change) (plan : Plan) → install_plan (store_of app) origin set ≡ Ok plan → P plan
+  planned_install origin [] plan is = subst P (of_ok _ refl is) none
+  planned_install origin (c ∷ cs) plan is = planned_entry (record { origin = origin; set = c ∷ cs }) plan is
 
-  pub grows_written : (ops : List Op) (plan : Plan) → write_plan (store_of app) ops ≡ Ok plan → GrowsTo plan
-  grows_written ops plan is = chained GrowsTo (as_batch (batch_of app.schema.tables (store_of app).rows ops)) (install_plan (store_of app) Local) (λ set y at. grows_installed Local set y at) plan is
+  planned_write : (ops : List Op) (plan : Plan) → write_plan (store_of app) ops ≡ Ok plan → P plan
+  planned_write ops plan is = chained P (as_batch (batch_of app.schema.tables (store_of app).rows ops)) (install_plan (store_of app) Local) (λ set y at. planned_install Local set y at) plan is
+
+module _ (app : App) (ops : List Op) (plan : Plan) (is : write_plan (store_of app) ops ≡ Ok plan) where
+  -- the app grown to the store of a plan has that store
+  pub grows_written : store_of (grown_to app plan.after) ≡ plan.after
+  grows_written = planned_write app (λ p. store_of (grown_to app p.after) ≡ p.after) (grown_entry app) refl ops plan is
+
+  -- and its history goes on
+  pub longer_written : (more : List Entry) × (plan.after.entries ≡ app.entries ++ more)
+  longer_written = planned_write app (λ p. (more : List Entry) × (p.after.entries ≡ app.entries ++ more)) (λ e. (e ∷ [], refl)) ([], sym (append-nil app.entries)) ops plan is
 
 -- a store that was just opened has no entries
 pub none_opened : (name : List ℕ) (schema : SeenSchema) (kept : Kept) (plan : Plan) → open_plan name schema kept ≡ Ok plan → plan.after.entries ≡ []

@@ -40,9 +40,19 @@ use Rattle.melon_script.specs.SeenLine.{SeenLine}
 use Rattle.melon_script.specs.Script.{forms_in}
 use Rattle.melon_script.specs.declared.item.Item.{Item}
 use Rattle.melon_machine.specs.Calls.{Calls, Done, Load, Commit, asks, with_end, next, after_next, after_batch, Followed, follow}
-use Rattle.melon_machine.specs.State.{App, State, store_of, opened_as, grown_to, queued_to, with_history, none_open}
-use Rattle.melon_machine.specs.Step.{Stepped, stepped, Told, told, put_back, place_of, with_opened, opens_by, opens_over, opens_under, open_fault, opens_unless, open_step, closes, close_step, on_found, on_place, on_app, writes_by, writes, write_fault, writes_unless, write_app, entered_as, enter_app, nested_as, nest_app, left_as, leave_app, fetched, rows_shown, looks, step}
-use Rattle.melon_machine.specs.Refusals.{keeper_refusal, writer_refusal}
+use Rattle.melon_schema.specs.Places.{table_named}
+use Rattle.melon_raw.specs.Rows.{table_at}
+use Rattle.melon_query.specs.declared.query.Query.{Query}
+use Rattle.melon_query.specs.declared.query_fault.QueryFault.{QueryFault}
+use Rattle.melon_query.specs.Reading.{query_of}
+use Rattle.melon_views.specs.declared.emission.Shape.{Shape}
+use Rattle.melon_relation.specs.declared.relation.Relation.{Relation}
+use Rattle.melon_relation.specs.declared.fault.RelationFault.{RelationFault}
+use Rattle.melon_relation.specs.Relations.{related}
+use Rattle.melon_script.specs.declared.line.LineShape.{LineShape}
+use Rattle.melon_machine.specs.State.{App, Observer, State, store_of, opened_as, grown_to, queued_to, observed_by, with_history, none_open}
+use Rattle.melon_machine.specs.Step.{Stepped, stepped, Told, told, put_back, place_of, with_opened, opens_by, opens_over, opens_under, open_fault, opens_unless, open_step, closes, close_step, on_found, on_place, on_app, writes_by, writes, write_fault, writes_unless, write_app, entered_as, enter_app, nested_as, nest_app, left_as, leave_app, fetched, rows_shown, parent_shown, children_shown, place_in, taken_fault, shape_in, unless_told, with_place, with_table, watches, observes_as, observes, observe_app, watches_by, watches_id, watch_app, drops, drop_app, turns_of, turns_at, turn_app, looks, step}
+use Rattle.melon_machine.specs.Refusals.{keeper_refusal, writer_refusal, id_refusal, observer_refusal}
 use Rattle.melon_machine.specs.Run.{Ran, run_from, run}
 use Rattle.melon_machine.specs.Sound.{IsSoundApp, AreSoundApps, IsNotAmong, AreDifferent, names_of, IsSound, RunsAreSound}
 use Rattle.melon_machine.proofs.Grown.{grows_written, none_opened, opened_name}
@@ -296,9 +306,69 @@ module _ (name : List ℕ) (app : App) (kept : Stores) (ordered : (other : List 
       by true = queued_stays _ _
       by false = stays_so _
 
+  -- ---- observers
+
+  observed_stays : (observers : List Observer) (items : List Item) → Stays app kept (record { app = observed_by app observers; items = items }) kept
+  observed_stays observers items = record { name = refl; elsewhere = λ other apart. refl; ordered = ordered; sound = record { formed = h.formed; legal = h.legal; keeps = h.keeps } }
+
+  unless_observed : (observer : List ℕ) (fault : Option ℕ) (t : Told App) → Stays app kept t kept → Stays app kept (unless_told with_history observer app fault t) kept
+  unless_observed observer (Some number) t k = stays_so _
+  unless_observed observer None t k = k
+
+  opens_observer_stays : (observer : List ℕ) (good : Bool) (t : Told App) → Stays app kept t kept
+      → Stays app kept (if good then unless_told with_history observer app (taken_fault observer (with_history.observers app)) t else told app (observer_refusal 4 observer)) kept
+  opens_observer_stays observer true t k = unless_observed observer (taken_fault observer (with_history.observers app)) t k
+  opens_observer_stays observer false t k = stays_so _
+
+  placed_stays : (table : List ℕ) (does : ℕ → Told App) → ((t : ℕ) → Stays app kept (does t) kept) → (place : Option ℕ) → Stays app kept (with_place with_history table app does place) kept
+  placed_stays table does k None = stays_so _
+  placed_stays table does k (Some t) = k t
+
+  observes_stays : (observer : List ℕ) (t : ℕ) (shape : LineShape) (r : Result Query QueryFault) → Stays app kept (observes with_history name observer app t shape r) kept
+  observes_stays observer t shape (Err fault) = stays_so _
+  observes_stays observer t shape (Ok query) = by (shape_in (table_at app.schema.tables t).columns shape)
+    where
+      by : (s : Option Shape) → Stays app kept (observes_as with_history name observer app query s) kept
+      by None = stays_so _
+      by (Some s) = observed_stays _ _
+
+  observe_stays : (observer table : List ℕ) (json : Data) (shape : LineShape) → Stays app kept (observe_app with_history name observer table json shape app) kept
+  observe_stays observer table json shape =
+      opens_observer_stays observer (is_id observer) _ (placed_stays table _ (λ t. observes_stays observer t shape (query_of app.schema.tables table json)) (table_named table app.schema.tables))
+
+  watches_id_stays : (observer : List ℕ) (good : Bool) (r : Result Relation RelationFault) (id : List ℕ) → Stays app kept (if good then watches_by with_history name observer app r else told app id_refusal) kept
+  watches_id_stays observer true (Ok relation) id = observed_stays _ _
+  watches_id_stays observer true (Err fault) id = stays_so _
+  watches_id_stays observer false r id = stays_so _
+
+  watch_stays : (observer table id to : List ℕ) → Stays app kept (watch_app with_history name observer table id to app) kept
+  watch_stays observer table id to =
+      opens_observer_stays observer (is_id observer) _
+      (placed_stays table _ (λ t. placed_stays to _ (λ u. watches_id_stays observer (is_id id) (related app.schema.tables (store_of app).rows t id u) id) (table_named to app.schema.tables)) (table_named table app.schema.tables))
+
+  drop_stays : (observer : List ℕ) → Stays app kept (drop_app with_history name observer app) kept
+  drop_stays observer = by (is_id observer) (place_in observer (with_history.observers app))
+    where
+      by : (good : Bool) (place : Option ℕ) → Stays app kept (if good then drops with_history name observer app place else told app (observer_refusal 4 observer)) kept
+      by true None = stays_so _
+      by true (Some place) = observed_stays _ _
+      by false place = stays_so _
+
+  turn_stays : (observer : List ℕ) → Stays app kept (turn_app name observer app) kept
+  turn_stays observer = by (is_id observer) (place_in observer (with_history.observers app))
+    where
+      by_found : (place : ℕ) (found : Option Observer) → Stays app kept (turns_of name app place found observer) kept
+      by_found place None = stays_so _
+      by_found place (Some o) = observed_stays _ _
+
+      by : (good : Bool) (place : Option ℕ) → Stays app kept (if good then turns_at name observer app place else told app (observer_refusal 4 observer)) kept
+      by true None = stays_so _
+      by true (Some place) = by_found place (slice_get app.observers place)
+      by false place = stays_so _
+
 -- ---- a line, and all lines
 
-step_lasts : (m : State App) (line : SeenLine) (kept : Stores) → IsSound m kept → Lasts (step with_history m line) kept
+step_lasts : (m : State App) (line : SeenLine) (kept : Stores) → IsSound m kept → Lasts (step m line) kept
 unfolding step
 step_lasts m (lines.Open name schema) kept h = open_lasts m.apps name schema kept h
 step_lasts m (lines.Close name) kept h = close_lasts m.apps name kept (place_of with_history name m.apps) h
@@ -314,11 +384,21 @@ step_lasts m (lines.Fetch name table query) kept h =
     app_lasts m.apps name kept h (looks with_history (fetched name table query)) (λ app s outcomes. stays_so name app kept h.ordered s (fetched name table query (store_of app)))
 step_lasts m (lines.Rows name table) kept h =
     app_lasts m.apps name kept h (looks with_history (rows_shown name table)) (λ app s outcomes. stays_so name app kept h.ordered s (rows_shown name table (store_of app)))
+step_lasts m (lines.Observe name observer table query shape) kept h =
+    app_lasts m.apps name kept h (λ app. Done (observe_app with_history name observer table query shape app)) (λ app s outcomes. observe_stays name app kept h.ordered s observer table query shape)
+step_lasts m (lines.Watch name observer table id to) kept h =
+    app_lasts m.apps name kept h (λ app. Done (watch_app with_history name observer table id to app)) (λ app s outcomes. watch_stays name app kept h.ordered s observer table id to)
+step_lasts m (lines.Turn name observer) kept h = app_lasts m.apps name kept h (λ app. Done (turn_app name observer app)) (λ app s outcomes. turn_stays name app kept h.ordered s observer)
+step_lasts m (lines.Drop name observer) kept h = app_lasts m.apps name kept h (λ app. Done (drop_app with_history name observer app)) (λ app s outcomes. drop_stays name app kept h.ordered s observer)
+step_lasts m (lines.Parent name table id to) kept h =
+    app_lasts m.apps name kept h (looks with_history (parent_shown name table id to)) (λ app s outcomes. stays_so name app kept h.ordered s (parent_shown name table id to (store_of app)))
+step_lasts m (lines.Children name table id to) kept h =
+    app_lasts m.apps name kept h (looks with_history (children_shown name table id to)) (λ app s outcomes. stays_so name app kept h.ordered s (children_shown name table id to (store_of app)))
 
 lines_last : (forms : List SeenLine) (m : State App) (kept : Stores) (outcomes : List Bool) → IsSound m kept → IsSound (run_from m kept forms outcomes).after (run_from m kept forms outcomes).kept
 lines_last [] m kept outcomes h = h
 lines_last (line ∷ more) m kept outcomes h =
-    let done = follow (step with_history m line) kept outcomes in
+    let done = follow (step m line) kept outcomes in
     lines_last more done.value.after done.kept done.left (step_lasts m line kept h outcomes)
 
 pub runs_are_sound : RunsAreSound

@@ -1,7 +1,7 @@
 -- A machine whose apps have their histories steps as one that has their stores alone.
-use Rattle.std.proofs.Common.{◌≡◌, ℕ, List, [], ◌∷◌, ◌++◌, map, length, Bool, true, false, bytes_eq, refl, ap, sym, ◌∙◌, subst}
+use Rattle.std.proofs.Common.{◌≡◌, ℕ, zero, suc, ◌≤◌, le_refl, List, [], ◌∷◌, ◌++◌, map, length, take_all, Bool, true, false, bytes_eq, refl, ap, sym, ◌∙◌, subst, arith}
 use Rattle.std.specs.Prelude.{Option, Some, None, option_map, Result, Ok, Err, position, slice_get, set, nat_le, not, is_some, if◌then◌else◌}
-use Rattle.std.specs.List.{remove}
+use Rattle.std.specs.List.{remove, AllByRecursion}
 use Rattle.std.proofs.lemmas.List.{map-set, map-append, length-map}
 use Rattle.std.proofs.lemmas.Option.{slice_get-map}
 use Rattle.indexmap.proofs.SetLemmas.{map-remove}
@@ -29,32 +29,38 @@ use Rattle.melon_script.specs.SeenLine.{SeenLine}
 use Rattle.melon_script.specs.declared.item.Item.{Item}
 use Rattle.melon_script.specs.declared.item.Item.TheVariants as items
 use Rattle.melon_machine.specs.Calls.{Calls, Done, Load, Commit, asks, with_end}
-use Rattle.melon_machine.specs.State.{App, KeptApp, kept_app, app_kept, no_writers, State, Kind, store_of, opened_as, grown_to, with_history, as_kept, kept_of}
+use Rattle.melon_raw.specs.Rows.{table_at}
+use Rattle.melon_change.specs.declared.history.Entry.{Entry}
+use Rattle.melon_change.specs.History.{History, replay, replay_to}
+use Rattle.melon_query.specs.declared.query.Query.{Query}
+use Rattle.melon_query.specs.declared.query_fault.QueryFault.{QueryFault}
+use Rattle.melon_query.specs.Reading.{query_of}
+use Rattle.melon_views.specs.declared.emission.Shape.{Shape}
+use Rattle.melon_views.specs.Laws.{grown}
+use Rattle.melon_views.specs.Views.{shown}
+use Rattle.melon_views.proofs.Standings.{grown_views}
+use Rattle.melon_relation.specs.declared.relation.Relation.{Relation}
+use Rattle.melon_relation.specs.declared.fault.RelationFault.{RelationFault}
+use Rattle.melon_relation.specs.Relations.{parent_in, related}
+use Rattle.melon_relation.proofs.Histories.{grown_parents}
+use Rattle.melon_script.specs.declared.line.LineShape.{LineShape}
+use Rattle.melon_machine.specs.Legal.{IsLegalApp, AreLegal}
+use Rattle.melon_machine.specs.Showing.{opening_item}
+use Rattle.melon_machine.specs.State.{Watch, Answer, Owner, Observer, named, App, history_of, store_of, no_writers, opened_as, grown_to, watched_now, KeptWatch, Answers, Owns, KeptObserver, kept_observer, KeptApp, kept_app, kept_now, kept_at, observer_kept, app_kept, watched_on, Kind, with_history, as_kept, State, kept_of}
 use Rattle.melon_machine.specs.Refusals.{app_refusal, schema_refusal, table_refusal, keeper_refusal, open_refusal, ops_refusal, write_refusal}
-use Rattle.melon_machine.specs.Step.{Stepped, stepped, Told, told, put_back, place_of, says, row_count, with_opened, opens_by, opens_over, opens_under, open_fault, opens_unless, open_step, closes, close_step, on_found, on_place, on_app, writes_by, writes, write_fault, writes_unless, write_app, entered_as, enter_app, nested_as, nest_app, leave_app, fetched, rows_shown, looks, step}
+use Rattle.melon_machine.specs.Step.{Stepped, stepped, Told, told, put_back, place_of, says, row_count, with_opened, opens_by, opens_over, opens_under, open_fault, opens_unless, open_step, closes, close_step, on_found, on_place, on_app, writes_by, writes, write_fault, writes_unless, write_app, entered_as, enter_app, nested_as, nest_app, leave_app, fetched, rows_shown, parent_shown, children_shown, place_in, taken_fault, shape_in, unless_told, opens_observer, with_place, with_table, watches, observes_as, observes, observe_app, watches_by, watches_id, watch_app, drops, drop_app, looks, step, kept_told, kept_step, kept_calls, is_turn, plain_step}
 use Rattle.melon_machine.proofs.Followed.{asks_end}
-use Rattle.melon_machine.proofs.Grown.{grows_written, none_opened}
-
--- a step whose apps are their stores alone
-abbrev pub kept_step : Stepped App → Stepped KeptApp
-kept_step s = record { after = kept_of s.after; items = s.items }
-
-abbrev pub kept_calls : Calls (Stepped App) → Calls (Stepped KeptApp)
-kept_calls calls = with_end kept_step calls
+use Rattle.melon_machine.proofs.Grown.{grows_written, longer_written, none_opened}
 
 abbrev pub stores : List App → List KeptApp
 stores apps = map app_kept apps
-
--- an app that was told is its store alone
-abbrev pub kept_told : Told App → Told KeptApp
-kept_told t = record { app = app_kept t.app; items = t.items }
 
 end_twice : {X Y Z : Type 0} (f : Y → Z) (g : X → Y) (calls : Calls X) → with_end f (with_end g calls) ≡ with_end (λ x. f (g x)) calls
 end_twice f g (Done x) = refl
 end_twice f g (Load name does) = λ i. Load name (λ kept. end_twice f g (does kept) i)
 end_twice f g (Commit name batch does) = λ i. Commit name batch (λ ok. end_twice f g (does ok) i)
 
-place_same : (name : List ℕ) (apps : List App) → place_of as_kept name (stores apps) ≡ place_of with_history name apps
+pub place_same : (name : List ℕ) (apps : List App) → place_of as_kept name (stores apps) ≡ place_of with_history name apps
 place_same name apps = position-map (λ (a : KeptApp). bytes_eq a.store.name name) app_kept apps
 
 -- ---- opening
@@ -65,7 +71,7 @@ opened_store store none = λ i. record { name = store.name; schema = store.schem
 
 opened_same : (apps : List App) (name : List ℕ) (store : SeenStore) → store.entries ≡ [] → with_opened as_kept (stores apps) name store ≡ kept_step (with_opened with_history apps name store)
 opened_same apps name store none =
-    λ i. stepped ((ap (λ (s : SeenStore). stores apps ++ kept_app s no_writers ∷ []) (opened_store store none) ∙ sym (map-append app_kept apps (opened_as store ∷ []))) i) (items.Open name (row_count store.rows) store.last)
+    λ i. stepped ((ap (λ (s : SeenStore). stores apps ++ kept_app s no_writers [] ∷ []) (opened_store store none) ∙ sym (map-append app_kept apps (opened_as store ∷ []))) i) (items.Open name (row_count store.rows) store.last)
 
 opens_by_same : (apps : List App) (name : List ℕ) (r : Result Plan OpenFault) → ((plan : Plan) → r ≡ Ok plan → plan.after.entries ≡ []) → opens_by as_kept (stores apps) name r ≡ kept_calls (opens_by with_history apps name r)
 opens_by_same apps name (Ok plan) none =
@@ -102,41 +108,87 @@ close_same apps name = ap (closes as_kept (stores apps) name) (place_same name a
 
 -- ---- an open app
 
-module _ (apps : List App) (name : List ℕ) (kept : KeptApp → Calls (Told KeptApp)) (does : App → Calls (Told App)) (same : (app : App) → kept (app_kept app) ≡ with_end kept_told (does app)) where
+module _ (apps : List App) (name : List ℕ) (kept : KeptApp → Calls (Told KeptApp)) (does : App → Calls (Told App))
+    (same : (place : ℕ) (app : App) → slice_get apps place ≡ Some app → kept (app_kept app) ≡ with_end kept_told (does app)) where
   put_back_same : (place : ℕ) → ◌≡◌ {A = Told App → Stepped KeptApp} (λ t. put_back (stores apps) place (kept_told t)) (λ t. kept_step (put_back apps place t))
   put_back_same place = λ i t. record { after = record { apps = sym (map-set app_kept apps place t.app) i }; items = t.items }
 
-  found_same : (place : ℕ) (found : Option App) → on_found as_kept (stores apps) name kept place (option_map app_kept found) ≡ kept_calls (on_found with_history apps name does place found)
-  found_same place None = refl
-  found_same place (Some app) =
-      ap (with_end (put_back (stores apps) place)) (same app)
+  found_same : (place : ℕ) (found : Option App) → slice_get apps place ≡ found → on_found as_kept (stores apps) name kept place (option_map app_kept found) ≡ kept_calls (on_found with_history apps name does place found)
+  found_same place None here = refl
+  found_same place (Some app) here =
+      ap (with_end (put_back (stores apps) place)) (same place app here)
       ∙ end_twice (put_back (stores apps) place) kept_told (does app)
       ∙ ap (λ (f : Told App → Stepped KeptApp). with_end f (does app)) (put_back_same place)
       ∙ sym (end_twice kept_step (put_back apps place) (does app))
 
   place_found : (place : Option ℕ) → on_place as_kept (stores apps) name kept place ≡ kept_calls (on_place with_history apps name does place)
   place_found None = refl
-  place_found (Some place) = ap (on_found as_kept (stores apps) name kept place) (slice_get-map app_kept apps place) ∙ found_same place (slice_get apps place)
+  place_found (Some place) = ap (on_found as_kept (stores apps) name kept place) (slice_get-map app_kept apps place) ∙ found_same place (slice_get apps place) refl
 
-  app_same : on_app as_kept (stores apps) name kept ≡ kept_calls (on_app with_history apps name does)
+  pub app_same : on_app as_kept (stores apps) name kept ≡ kept_calls (on_app with_history apps name does)
   app_same = ap (on_place as_kept (stores apps) name kept) (place_same name apps) ∙ place_found (place_of with_history name apps)
+
+-- an app that stands among legal ones is legal
+pub legal_at : (apps : List App) (place : ℕ) (app : App) → slice_get apps place ≡ Some app → AreLegal apps → IsLegalApp app
+legal_at [] place app here h = absurd (grind (arith, here))
+legal_at (a ∷ apps) zero app here h = subst IsLegalApp (some_is here) h.0
+  where
+    some_is : {X : Type 0} {x y : X} → Some x ≡ Some y → x ≡ y
+    some_is e = grind (arith, e)
+legal_at (a ∷ apps) (suc place) app here h = legal_at apps place app here h.1
+
+-- ---- observers
+
+-- what was shown stays so in a history that has grown
+kept_grown : (h : History) (more : List Entry) (at : ℕ) (watch : Watch) → at ≤ length h.entries → kept_at (grown h more) at watch ≡ kept_at h at watch
+kept_grown h more at (Answer q s) within = λ i. Answers (record { query = q; shape = s; at = at; kept = grown_views h more q s at within i })
+kept_grown h more at (Owner r) within = λ i. Owns (record { relation = r; at = at; kept = grown_parents h more r at within i })
+
+observers_stay : (h : History) (more : List Entry) (observers : List Observer) → AllByRecursion (λ (o : Observer). o.at ≤ length h.entries) observers → map (observer_kept h) observers ≡ map (observer_kept (grown h more)) observers
+observers_stay h more [] within = refl
+observers_stay h more (o ∷ observers) within = λ i. kept_observer o.name (sym (kept_grown h more o.at o.watch within.0) i) ∷ observers_stay h more observers within.1 i
+
+-- all entries of a history leave its rows now
+pub rows_at_end : (h : History) → replay_to h (length h.entries) ≡ replay h.opening h.entries
+rows_at_end h = ap (replay h.opening) (take_all (length h.entries) h.entries (le_refl (length h.entries)))
+
+-- what is shown now is what is shown after all entries
+pub kept_at_end : (h : History) (watch : Watch) → kept_at h (length h.entries) watch ≡ kept_now (length h.entries) (replay h.opening h.entries) watch
+kept_at_end h (Answer q s) = λ i. Answers (record { query = q; shape = s; at = length h.entries; kept = shown q s (rows_at_end h i) })
+kept_at_end h (Owner r) = λ i. Owns (record { relation = r; at = length h.entries; kept = parent_in r (rows_at_end h i) })
+
+watching_same : (app : App) (observer : List ℕ) (watch : Watch) → watched_on (app_kept app) observer watch ≡ app_kept (watched_now app observer watch)
+watching_same app observer watch =
+    let h = history_of app in
+    λ i. kept_app (store_of app) app.queue
+    (((λ j. map (observer_kept h) app.observers ++ kept_observer observer (sym (kept_at_end h watch) j) ∷ []) ∙ sym (map-append (observer_kept h) app.observers (named observer watch (length app.entries) ∷ []))) i)
+
+pub names_same : (h : History) (observers : List Observer) → map (λ (o : KeptObserver). o.name) (map (observer_kept h) observers) ≡ map (λ (o : Observer). o.name) observers
+names_same h [] = refl
+names_same h (o ∷ observers) = λ i. o.name ∷ names_same h observers i
 
 -- ---- writing
 
-writes_by_same : (name : List ℕ) (app : App) (r : Result Plan WriteFault) → ((plan : Plan) → r ≡ Ok plan → store_of (grown_to app plan.after) ≡ plan.after)
+writes_by_same : (name : List ℕ) (app : App) (r : Result Plan WriteFault) → IsLegalApp app
+    → ((plan : Plan) → r ≡ Ok plan → (store_of (grown_to app plan.after) ≡ plan.after) × (more : List Entry) × (plan.after.entries ≡ app.entries ++ more))
     → writes_by as_kept name (app_kept app) r ≡ with_end kept_told (writes_by with_history name app r)
-writes_by_same name app (Ok plan) grows =
-    ap (λ store. asks (store_key app.name) plan.batch (told (kept_app store app.queue) (items.Write name (length plan.after.entries))) (told (app_kept app) keeper_refusal)) (sym (grows plan refl))
+writes_by_same name app (Ok plan) legal grows =
+    let g = grows plan refl in
+    let h = history_of app in
+    let longer : grown h g.1 ≡ history_of (grown_to app plan.after) = λ i. record { opening = app.opening; entries = sym g.2 i } in
+    let stay : map (observer_kept h) app.observers ≡ map (observer_kept (history_of (grown_to app plan.after))) app.observers =
+    observers_stay h g.1 app.observers legal.within ∙ ap (λ (l : History). map (observer_kept l) app.observers) longer in
+    (λ i. asks (store_key app.name) plan.batch (told (kept_app (sym g.0 i) app.queue (stay i)) (items.Write name (length plan.after.entries))) (told (app_kept app) keeper_refusal))
     ∙ asks_end kept_told (store_key app.name) plan.batch (told (grown_to app plan.after) (items.Write name (length plan.after.entries))) (told app keeper_refusal)
-writes_by_same name app (Err fault) grows = refl
+writes_by_same name app (Err fault) legal grows = refl
 
-writes_same : (name : List ℕ) (app : App) (r : Result (List Op) OpsFault) → writes as_kept name (app_kept app) r ≡ with_end kept_told (writes with_history name app r)
-writes_same name app (Ok ops) = writes_by_same name app (write_plan (store_of app) ops) (grows_written app ops)
-writes_same name app (Err fault) = refl
+writes_same : (name : List ℕ) (app : App) (r : Result (List Op) OpsFault) → IsLegalApp app → writes as_kept name (app_kept app) r ≡ with_end kept_told (writes with_history name app r)
+writes_same name app (Ok ops) legal = writes_by_same name app (write_plan (store_of app) ops) legal (λ plan is. (grows_written app ops plan is, (longer_written app ops plan is).0, (longer_written app ops plan is).1))
+writes_same name app (Err fault) legal = refl
 
-write_same : (name : List ℕ) (json : Data) (app : App) (fault : Option Item) → writes_unless as_kept name json (app_kept app) fault ≡ with_end kept_told (writes_unless with_history name json app fault)
-write_same name json app (Some refusal) = refl
-write_same name json app None = writes_same name app (ops_of json)
+write_same : (name : List ℕ) (json : Data) (app : App) (fault : Option Item) → IsLegalApp app → writes_unless as_kept name json (app_kept app) fault ≡ with_end kept_told (writes_unless with_history name json app fault)
+write_same name json app (Some refusal) legal = refl
+write_same name json app None legal = writes_same name app (ops_of json) legal
 
 -- ---- the queue
 
@@ -162,16 +214,88 @@ nest_same name writer app = choice kept_told (is_id writer) _ _ _ _ (nested_same
 leave_same : (name writer : List ℕ) (app : App) → leave_app as_kept name writer (app_kept app) ≡ kept_told (leave_app with_history name writer app)
 leave_same name writer app = choice kept_told (is_id writer) _ _ _ _ refl refl
 
+-- ---- opening and dropping observers
+
+module _ (name observer : List ℕ) (app : App) where
+  abbrev IsSame : Told KeptApp → Told App → Type 0
+  IsSame a b = a ≡ kept_told b
+
+  watches_same : (watch : Watch) → IsSame (watches as_kept name observer (app_kept app) watch) (watches with_history name observer app watch)
+  watches_same watch = λ i. told (watching_same app observer watch i) (opening_item app.schema.tables name observer (length app.entries) (replay app.opening app.entries) watch)
+
+  unless_same : (fault : Option ℕ) (a : Told KeptApp) (b : Told App) → IsSame a b → IsSame (unless_told as_kept observer (app_kept app) fault a) (unless_told with_history observer app fault b)
+  unless_same (Some number) a b h = refl
+  unless_same None a b h = h
+
+  placed_same : (table : List ℕ) (does : ℕ → Told KeptApp) (does' : ℕ → Told App) → ((t : ℕ) → IsSame (does t) (does' t)) → (place : Option ℕ)
+      → IsSame (with_place as_kept table (app_kept app) does place) (with_place with_history table app does' place)
+  placed_same table does does' h None = refl
+  placed_same table does does' h (Some t) = h t
+
+  names_are : as_kept.observers (app_kept app) ≡ with_history.observers app
+  names_are = names_same (history_of app) app.observers
+
+  observes_as_same : (query : Query) (shape : Option Shape) → IsSame (observes_as as_kept name observer (app_kept app) query shape) (observes_as with_history name observer app query shape)
+  observes_as_same query None = refl
+  observes_as_same query (Some shape) = watches_same (Answer query shape)
+
+  observes_same : (t : ℕ) (shape : LineShape) (r : Result Query QueryFault) → IsSame (observes as_kept name observer (app_kept app) t shape r) (observes with_history name observer app t shape r)
+  observes_same t shape (Err fault) = refl
+  observes_same t shape (Ok query) = observes_as_same query (shape_in (table_at app.schema.tables t).columns shape)
+
+  opens_same : (a : Told KeptApp) (b : Told App) → IsSame a b → IsSame (opens_observer as_kept observer (app_kept app) a) (opens_observer with_history observer app b)
+  opens_same a b h =
+      choice kept_told (is_id observer) _ _ _ _
+      (ap (λ (names : List (List ℕ)). unless_told as_kept observer (app_kept app) (taken_fault observer names) a) names_are ∙ unless_same (taken_fault observer (with_history.observers app)) a b h) refl
+
+  observe_same : (table : List ℕ) (json : Data) (shape : LineShape) → IsSame (observe_app as_kept name observer table json shape (app_kept app)) (observe_app with_history name observer table json shape app)
+  observe_same table json shape = opens_same _ _ (placed_same table _ _ (λ t. observes_same t shape (query_of app.schema.tables table json)) (table_named table app.schema.tables))
+
+  watches_by_same : (r : Result Relation RelationFault) → IsSame (watches_by as_kept name observer (app_kept app) r) (watches_by with_history name observer app r)
+  watches_by_same (Err fault) = refl
+  watches_by_same (Ok relation) = watches_same (Owner relation)
+
+  watch_same : (table id to : List ℕ) → IsSame (watch_app as_kept name observer table id to (app_kept app)) (watch_app with_history name observer table id to app)
+  watch_same table id to =
+      opens_same _ _
+      (placed_same table _ _ (λ t. placed_same to _ _ (λ u. choice kept_told (is_id id) _ _ _ _ (watches_by_same (related app.schema.tables (store_of app).rows t id u)) refl) (table_named to app.schema.tables)) (table_named table app.schema.tables))
+
+  drops_same : (place : Option ℕ) → IsSame (drops as_kept name observer (app_kept app) place) (drops with_history name observer app place)
+  drops_same None = refl
+  drops_same (Some place) = λ i. told (kept_app (store_of app) app.queue (sym (map-remove (observer_kept (history_of app)) app.observers place) i)) (items.Drop name observer)
+
+  drop_same : IsSame (drop_app as_kept name observer (app_kept app)) (drop_app with_history name observer app)
+  drop_same =
+      choice kept_told (is_id observer) _ _ _ _
+      (ap (λ (names : List (List ℕ)). drops as_kept name observer (app_kept app) (place_in observer names)) names_are ∙ drops_same (place_in observer (with_history.observers app))) refl
+
 -- ---- a line
 
-pub step_same : (m : State App) (line : SeenLine) → step as_kept (kept_of m) line ≡ kept_calls (step with_history m line)
-unfolding step
-step_same m (lines.Open name schema) = open_same m.apps name schema
-step_same m (lines.Close name) = λ i. Done (close_same m.apps name i)
-step_same m (lines.Enter name writer) = app_same m.apps name (λ app. Done (enter_app as_kept name writer app)) (λ app. Done (enter_app with_history name writer app)) (λ app. ap Done (enter_same name writer app))
-step_same m (lines.Nest name writer) = app_same m.apps name (λ app. Done (nest_app as_kept name writer app)) (λ app. Done (nest_app with_history name writer app)) (λ app. ap Done (nest_same name writer app))
-step_same m (lines.Leave name writer) = app_same m.apps name (λ app. Done (leave_app as_kept name writer app)) (λ app. Done (leave_app with_history name writer app)) (λ app. ap Done (leave_same name writer app))
-step_same m (lines.Write name ops writer) =
-    app_same m.apps name (write_app as_kept name ops writer) (write_app with_history name ops writer) (λ app. write_same name ops app (write_fault writer app.queue))
-step_same m (lines.Fetch name table query) = app_same m.apps name (looks as_kept (fetched name table query)) (looks with_history (fetched name table query)) (λ app. refl)
-step_same m (lines.Rows name table) = app_same m.apps name (looks as_kept (rows_shown name table)) (looks with_history (rows_shown name table)) (λ app. refl)
+pub plain_same : (m : State App) (line : SeenLine) → AreLegal m.apps → is_turn line ≡ false → plain_step (stores m.apps) line ≡ kept_calls (step m line)
+unfolding step plain_step
+plain_same m (lines.Open name schema) legal plain = open_same m.apps name schema
+plain_same m (lines.Close name) legal plain = λ i. Done (close_same m.apps name i)
+plain_same m (lines.Enter name writer) legal plain =
+    app_same m.apps name (λ app. Done (enter_app as_kept name writer app)) (λ app. Done (enter_app with_history name writer app)) (λ place app here. ap Done (enter_same name writer app))
+plain_same m (lines.Nest name writer) legal plain =
+    app_same m.apps name (λ app. Done (nest_app as_kept name writer app)) (λ app. Done (nest_app with_history name writer app)) (λ place app here. ap Done (nest_same name writer app))
+plain_same m (lines.Leave name writer) legal plain =
+    app_same m.apps name (λ app. Done (leave_app as_kept name writer app)) (λ app. Done (leave_app with_history name writer app)) (λ place app here. ap Done (leave_same name writer app))
+plain_same m (lines.Write name ops writer) legal plain =
+    app_same m.apps name (write_app as_kept name ops writer) (write_app with_history name ops writer)
+    (λ place app here. write_same name ops app (write_fault writer app.queue) (legal_at m.apps place app here legal))
+plain_same m (lines.Fetch name table query) legal plain = app_same m.apps name (looks as_kept (fetched name table query)) (looks with_history (fetched name table query)) (λ place app here. refl)
+plain_same m (lines.Rows name table) legal plain = app_same m.apps name (looks as_kept (rows_shown name table)) (looks with_history (rows_shown name table)) (λ place app here. refl)
+plain_same m (lines.Observe name observer table query shape) legal plain =
+    app_same m.apps name (λ app. Done (observe_app as_kept name observer table query shape app)) (λ app. Done (observe_app with_history name observer table query shape app))
+    (λ place app here. ap Done (observe_same name observer app table query shape))
+plain_same m (lines.Watch name observer table id to) legal plain =
+    app_same m.apps name (λ app. Done (watch_app as_kept name observer table id to app)) (λ app. Done (watch_app with_history name observer table id to app))
+    (λ place app here. ap Done (watch_same name observer app table id to))
+plain_same m (lines.Turn name observer) legal plain = absurd (grind (arith, plain))
+plain_same m (lines.Drop name observer) legal plain =
+    app_same m.apps name (λ app. Done (drop_app as_kept name observer app)) (λ app. Done (drop_app with_history name observer app)) (λ place app here. ap Done (drop_same name observer app))
+plain_same m (lines.Parent name table id to) legal plain =
+    app_same m.apps name (looks as_kept (parent_shown name table id to)) (looks with_history (parent_shown name table id to)) (λ place app here. refl)
+plain_same m (lines.Children name table id to) legal plain =
+    app_same m.apps name (looks as_kept (children_shown name table id to)) (looks with_history (children_shown name table id to)) (λ place app here. refl)

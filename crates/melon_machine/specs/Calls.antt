@@ -1,6 +1,6 @@
 -- What a step asks of the keeper, and what it does with each answer.
 use Rattle.std.specs.Prelude.{◌≡◌, ℕ, ◌+◌, ◌-◌, ◌^◌, ◌≤◌, min, List, [], ◌∷◌, Bool, true, false, Option, Some, None, bytes_eq, if◌then◌else◌}
-use Rattle.melon_outside.specs.Kept.{batched}
+use Rattle.melon_outside.specs.Kept.{batched, is_in_order}
 use Rattle.melon_outside.specs.Keeping.{Stores, AreSame}
 use Rattle.melon_outside.specs.declared.kept.Kept.{Kept}
 use Rattle.melon_outside.specs.declared.kept.KeptBatch.{KeptBatch}
@@ -61,11 +61,11 @@ follow (Load name does) kept outcomes =
 follow (Commit name batch does) kept outcomes =
     if next outcomes then follow (does true) (after_batch name batch kept) (after_next outcomes) else follow (does false) kept (after_next outcomes)
 
--- with exactly these outcomes the calls end with the value and leave that kept
+-- With exactly these outcomes the calls end with the value and leave that kept. What is loaded is in order.
 abbrev pub Follows : {X : Type 0} → Calls X → Stores → List Bool → X → Stores → Type 0
 Follows (Done x) was used y now = (used ≡ []) × (x ≡ y) × AreSame now was
 Follows (Load name does) was [] y now = ⊥
-Follows (Load name does) was (true ∷ used) y now = Follows (does (Some (was name))) was used y now
+Follows (Load name does) was (true ∷ used) y now = (is_in_order (was name) ≡ true) × Follows (does (Some (was name))) was used y now
 Follows (Load name does) was (false ∷ used) y now = Follows (does None) was used y now
 Follows (Commit name batch does) was [] y now = ⊥
 Follows (Commit name batch does) was (true ∷ used) y now = Follows (does true) (after_batch name batch was) used y now

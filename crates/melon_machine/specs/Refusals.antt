@@ -5,6 +5,8 @@ use Rattle.melon_schema.specs.declared.schema_fault.SchemaFault.{SchemaFault}
 use Rattle.melon_schema.specs.Schema.{fault_number}
 use Rattle.melon_query.specs.declared.query_fault.QueryFault.{QueryFault}
 use Rattle.melon_query.specs.Numbers as query
+use Rattle.melon_relation.specs.declared.fault.RelationFault.{RelationFault}
+use Rattle.melon_relation.specs.Faults as relation
 use Rattle.melon_queue.specs.declared.queue.QueueFault.{QueueFault}
 use Rattle.melon_queue.specs.declared.queue.QueueFault.TheVariants as faults
 use Rattle.melon_outside.specs.declared.kept.OpenFault.{OpenFault}
@@ -40,6 +42,22 @@ keeper_refusal = refused groups.Keeper 1 []
 
 abbrev pub query_refusal : QueryFault → Item
 query_refusal fault = refused groups.Query (query.fault_number fault) []
+
+-- a column that the table doesn't have, as in a query
+abbrev pub shape_refusal : Item
+shape_refusal = refused groups.Query 3 []
+
+-- 1 a taken name, 2 no such observer, 3 so many are open, 4 a bad name
+abbrev pub observer_refusal : ℕ → List ℕ → Item
+observer_refusal number observer = refused groups.Observer number (Words observer ∷ [])
+
+-- 1 no visible row, 2 no association
+abbrev pub relation_refusal : RelationFault → Item
+relation_refusal fault = refused groups.Relation (relation.fault_number fault) []
+
+-- an id outside the form of ids has no row
+abbrev pub id_refusal : Item
+id_refusal = refused groups.Relation 1 []
 
 -- a name, or nobody
 abbrev pub holder_detail : Option (List ℕ) → Detail

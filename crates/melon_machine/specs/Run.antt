@@ -6,17 +6,17 @@ use Rattle.melon_script.specs.Forms.{line_of, is_blank}
 use Rattle.melon_script.specs.Script.{forms_in}
 use Rattle.melon_script.specs.Printed.{answer_text}
 use Rattle.melon_machine.specs.Calls.{Calls, Done, Followed, follow}
-use Rattle.melon_machine.specs.State.{App, Kind, State, with_history, none_open}
+use Rattle.melon_machine.specs.State.{App, State, none_open}
 use Rattle.melon_machine.specs.Step.{Stepped, ends_with, step}
 
 -- what the form of a line does; none does nothing
-abbrev pub by_form : {A : Type 0} → Kind A → State A → Option SeenLine → Calls (Stepped A)
-by_form kind m None = Done (ends_with m [])
-by_form kind m (Some line) = step kind m line
+abbrev pub by_form : State App → Option SeenLine → Calls (Stepped App)
+by_form m None = Done (ends_with m [])
+by_form m (Some line) = step m line
 
 -- what a line of bytes does
-abbrev pub line_calls : {A : Type 0} → Kind A → State A → List ℕ → Calls (Stepped A)
-line_calls kind m bytes = if is_blank bytes then Done (ends_with m []) else by_form kind m (line_of bytes)
+abbrev pub line_calls : State App → List ℕ → Calls (Stepped App)
+line_calls m bytes = if is_blank bytes then Done (ends_with m []) else by_form m (line_of bytes)
 
 -- what was printed, the state and what is kept at the end, and the outcomes that are left
 pub record Ran : Type 0 where
@@ -36,7 +36,7 @@ goes_on done later = prints_first (answer_text done.value.items) (later done.val
 -- the lines of these forms, from this state on
 abbrev pub run_from : State App → Stores → List SeenLine → List Bool → Ran
 run_from m kept [] outcomes = record { text = []; after = m; kept = kept; left = outcomes }
-run_from m kept (line ∷ more) outcomes = goes_on (follow (step with_history m line) kept outcomes) (λ next now left. run_from next now more left)
+run_from m kept (line ∷ more) outcomes = goes_on (follow (step m line) kept outcomes) (λ next now left. run_from next now more left)
 
 -- The run of a script by a machine without open apps.
 unfoldable pub run : List ℕ → Stores → List Bool → Ran

@@ -1,11 +1,13 @@
 -- One step of the machine: what a line asks of the keeper, does and prints, checked in the order of its form.
-use Rattle.std.specs.Prelude.{ℕ, ◌^◌, ◌-◌, min, sum_by, List, [], ◌∷◌, ◌++◌, length, map, position, get_or, set, slice_get, zero, suc, option_map, Bool, not, nat_le, Option, Some, None, is_some, Result, Ok, Err, bytes_eq, if◌then◌else◌}
+use Rattle.std.specs.Prelude.{ℕ, ◌^◌, ◌-◌, min, sum_by, List, [], ◌∷◌, ◌++◌, length, map, position, get_or, set, slice_get, zero, suc, option_map, Bool, true, false, not, nat_le, Option, Some, None, is_some, Result, Ok, Err, bytes_eq, if◌then◌else◌}
 use Rattle.std.specs.List.{remove}
 use Rattle.serde_json.specs.Data.{Data}
 use Rattle.melon_schema.specs.Names.{is_name, is_id}
-use Rattle.melon_schema.specs.Places.{table_named}
+use Rattle.melon_schema.specs.Json.{each}
+use Rattle.melon_schema.specs.Places.{table_named, column_named}
 use Rattle.melon_schema.specs.Schema.{schema_of}
 use Rattle.melon_schema.specs.Seen.{SeenSchema}
+use Rattle.melon_schema.specs.declared.schema.ColumnSchema.{ColumnSchema}
 use Rattle.melon_schema.specs.declared.schema_fault.SchemaFault.{SchemaFault}
 use Rattle.melon_raw.specs.declared.raw.Raw.{Raw}
 use Rattle.melon_raw.specs.Encoding.{encoding}
@@ -29,13 +31,23 @@ use Rattle.melon_query.specs.declared.query.Query.{Query}
 use Rattle.melon_query.specs.declared.query_fault.QueryFault.{QueryFault}
 use Rattle.melon_query.specs.Reading.{query_of}
 use Rattle.melon_query.specs.Fresh.{fresh}
+use Rattle.melon_views.specs.declared.emission.Shape.{Shape}
+use Rattle.melon_views.specs.declared.emission.Shape.TheVariants as shapes
+use Rattle.melon_views.specs.declared.parent.Parent.{Parent}
+use Rattle.melon_relation.specs.declared.relation.Relation.{Relation}
+use Rattle.melon_relation.specs.declared.fault.RelationFault.{RelationFault}
+use Rattle.melon_relation.specs.Relations.{related, parent_told}
+use Rattle.melon_relation.specs.Children.{children_told}
+use Rattle.melon_script.specs.declared.line.LineShape.{LineShape}
+use Rattle.melon_script.specs.declared.line.LineShape.TheVariants as given_shapes
 use Rattle.melon_script.specs.SeenLine as lines
 use Rattle.melon_script.specs.SeenLine.{SeenLine}
 use Rattle.melon_script.specs.declared.item.Item.{Item}
 use Rattle.melon_script.specs.declared.item.Item.TheVariants as items
 use Rattle.melon_machine.specs.Calls.{Calls, Done, Load, asks, with_end}
-use Rattle.melon_machine.specs.State.{Kind, State}
-use Rattle.melon_machine.specs.Refusals.{app_refusal, schema_refusal, table_refusal, query_refusal, keeper_refusal, open_refusal, ops_refusal, write_refusal, queue_refusal, writer_refusal}
+use Rattle.melon_machine.specs.State.{App, KeptApp, Kind, State, Watch, Answer, Owner, Observer, named, history_of, observed_by, with_history, as_kept, app_kept, kept_of}
+use Rattle.melon_machine.specs.Showing.{given_parent, opening_item, turn_items}
+use Rattle.melon_machine.specs.Refusals.{app_refusal, schema_refusal, table_refusal, query_refusal, keeper_refusal, open_refusal, ops_refusal, write_refusal, queue_refusal, writer_refusal, shape_refusal, observer_refusal, relation_refusal, id_refusal}
 
 -- ---- what is asked of rows
 
@@ -221,19 +233,173 @@ fetched name table json store = on_table table (λ t. answered name store (query
 abbrev pub rows_shown : List ℕ → List ℕ → SeenStore → Item
 rows_shown name table store = on_table table (λ t. items.Rows name table (encodings_at store t)) (table_named table store.schema.tables)
 
+-- ---- relations
+
+-- what is shown of a record, unless its id is none
+abbrev pub on_id : List ℕ → Item → Item
+on_id id shows = if is_id id then shows else id_refusal
+
+abbrev pub parent_item : List ℕ → SeenStore → ℕ → Result Parent RelationFault → Item
+parent_item name store to (Ok parent) = items.Parent name (given_parent (table_at store.schema.tables to) parent)
+parent_item name store to (Err fault) = relation_refusal fault
+
+-- the row in the table `to` to which a row belongs
+abbrev pub parent_shown : List ℕ → List ℕ → List ℕ → List ℕ → SeenStore → Item
+parent_shown name table id to store =
+    on_table table (λ t. on_table to (λ u. on_id id (parent_item name store u (parent_told store.schema.tables store.rows t id u))) (table_named to store.schema.tables)) (table_named table store.schema.tables)
+
+abbrev pub children_item : List ℕ → Result (List (List ℕ)) RelationFault → Item
+children_item name (Ok ids) = items.Children name ids
+children_item name (Err fault) = relation_refusal fault
+
+-- the ids of the rows of the table `to` that belong to a record
+abbrev pub children_shown : List ℕ → List ℕ → List ℕ → List ℕ → SeenStore → Item
+children_shown name table id to store =
+    on_table table (λ t. on_table to (λ u. on_id id (children_item name (children_told store.schema.tables store.rows t id u))) (table_named to store.schema.tables)) (table_named table store.schema.tables)
+
+-- ---- observers
+
+abbrev pub place_in : List ℕ → List (List ℕ) → Option ℕ
+place_in observer names = position (λ name. bytes_eq name observer) names
+
+-- 1 a taken name, 3 sixty-four are open
+abbrev pub taken_fault : List ℕ → List (List ℕ) → Option ℕ
+taken_fault observer names = if is_some (place_in observer names) then Some 1 else (if nat_le 64 (length names) then Some 3 else None)
+
+-- the places of the columns of a shape, if each is declared
+abbrev pub shape_in : List ColumnSchema → LineShape → Option Shape
+shape_in columns given_shapes.Ids = Some shapes.Ids
+shape_in columns (given_shapes.Columns names) = option_map shapes.Columns (each (λ name. column_named name columns) names)
+
+module _ {A : Type 0} (kind : Kind A) where
+  -- the refusal of another observer, or what is done without one
+  abbrev pub unless_told : List ℕ → A → Option ℕ → Told A → Told A
+  unless_told observer app (Some number) done = told app (observer_refusal number observer)
+  unless_told observer app None done = done
+
+  -- an observer is opened under a name; 4 a bad one
+  abbrev pub opens_observer : List ℕ → A → Told A → Told A
+  opens_observer observer app done = if is_id observer then unless_told observer app (taken_fault observer (kind.observers app)) done else told app (observer_refusal 4 observer)
+
+  abbrev pub with_place : List ℕ → A → (ℕ → Told A) → Option ℕ → Told A
+  with_place table app does None = told app (table_refusal table)
+  with_place table app does (Some t) = does t
+
+  -- what is done with a declared table, or the refusal that there is no such table
+  abbrev pub with_table : List ℕ → A → (ℕ → Told A) → Told A
+  with_table table app does = with_place table app does (table_named table (kind.store app).schema.tables)
+
+  -- an observer is opened, and shows what is there now
+  abbrev pub watches : List ℕ → List ℕ → A → Watch → Told A
+  watches name observer app watch =
+      told (kind.watching app observer watch) (opening_item (kind.store app).schema.tables name observer (length (kind.store app).entries) (kind.store app).rows watch)
+
+  -- ---- an observer of a query
+
+  abbrev pub observes_as : List ℕ → List ℕ → A → Query → Option Shape → Told A
+  observes_as name observer app query None = told app shape_refusal
+  observes_as name observer app query (Some shape) = watches name observer app (Answer query shape)
+
+  abbrev pub observes : List ℕ → List ℕ → A → ℕ → LineShape → Result Query QueryFault → Told A
+  observes name observer app t shape (Err fault) = told app (query_refusal fault)
+  observes name observer app t shape (Ok query) = observes_as name observer app query (shape_in (table_at (kind.store app).schema.tables t).columns shape)
+
+  abbrev pub observe_app : List ℕ → List ℕ → List ℕ → Data → LineShape → A → Told A
+  observe_app name observer table json shape app =
+      opens_observer observer app (with_table table app (λ t. observes name observer app t shape (query_of (kind.store app).schema.tables table json)))
+
+  -- ---- a watch on a relation
+
+  abbrev pub watches_by : List ℕ → List ℕ → A → Result Relation RelationFault → Told A
+  watches_by name observer app (Err fault) = told app (relation_refusal fault)
+  watches_by name observer app (Ok relation) = watches name observer app (Owner relation)
+
+  abbrev pub watches_id : List ℕ → List ℕ → A → ℕ → List ℕ → ℕ → Told A
+  watches_id name observer app t id u = if is_id id then watches_by name observer app (related (kind.store app).schema.tables (kind.store app).rows t id u) else told app id_refusal
+
+  abbrev pub watch_app : List ℕ → List ℕ → List ℕ → List ℕ → List ℕ → A → Told A
+  watch_app name observer table id to app =
+      opens_observer observer app (with_table table app (λ t. with_table to app (λ u. watches_id name observer app t id u)))
+
+  -- ---- the end of an observer
+
+  abbrev pub drops : List ℕ → List ℕ → A → Option ℕ → Told A
+  drops name observer app None = told app (observer_refusal 2 observer)
+  drops name observer app (Some place) = told (kind.dropped app place) (items.Drop name observer)
+
+  abbrev pub drop_app : List ℕ → List ℕ → A → Told A
+  drop_app name observer app = if is_id observer then drops name observer app (place_in observer (kind.observers app)) else told app (observer_refusal 4 observer)
+
+-- ---- turns
+
+-- the observer at a place takes turns until it is still, and then stands at the journal's end
+abbrev pub turned : App → Observer → Observer
+turned app o = named o.name o.watch (length app.entries)
+
+abbrev pub turns_of : List ℕ → App → ℕ → Option Observer → List ℕ → Told App
+turns_of name app place None observer = told app (observer_refusal 2 observer)
+turns_of name app place (Some o) observer =
+    record { app = observed_by app (set app.observers place (turned app o)); items = turn_items app.schema.tables name o.name (history_of app) o.at o.watch }
+
+abbrev pub turns_at : List ℕ → List ℕ → App → Option ℕ → Told App
+turns_at name observer app None = told app (observer_refusal 2 observer)
+turns_at name observer app (Some place) = turns_of name app place (slice_get app.observers place) observer
+
+abbrev pub turn_app : List ℕ → List ℕ → App → Told App
+turn_app name observer app =
+    if is_id observer then turns_at name observer app (place_in observer (map (λ (o : Observer). o.name) app.observers)) else told app (observer_refusal 4 observer)
+
 module _ {A : Type 0} (kind : Kind A) where
   -- an app is looked at
   abbrev pub looks : (SeenStore → Item) → A → Calls (Told A)
   looks shows app = Done (told app (shows (kind.store app)))
 
-  -- ---- a line
+-- ---- a line
 
-  unfoldable pub step : State A → SeenLine → Calls (Stepped A)
-  step m (lines.Open name schema) = open_step kind m.apps name schema
-  step m (lines.Close name) = Done (close_step kind m.apps name)
-  step m (lines.Enter name writer) = on_app kind m.apps name (λ app. Done (enter_app kind name writer app))
-  step m (lines.Nest name writer) = on_app kind m.apps name (λ app. Done (nest_app kind name writer app))
-  step m (lines.Leave name writer) = on_app kind m.apps name (λ app. Done (leave_app kind name writer app))
-  step m (lines.Write name ops writer) = on_app kind m.apps name (write_app kind name ops writer)
-  step m (lines.Fetch name table query) = on_app kind m.apps name (looks (fetched name table query))
-  step m (lines.Rows name table) = on_app kind m.apps name (looks (rows_shown name table))
+unfoldable pub step : State App → SeenLine → Calls (Stepped App)
+step m (lines.Open name schema) = open_step with_history m.apps name schema
+step m (lines.Close name) = Done (close_step with_history m.apps name)
+step m (lines.Enter name writer) = on_app with_history m.apps name (λ app. Done (enter_app with_history name writer app))
+step m (lines.Nest name writer) = on_app with_history m.apps name (λ app. Done (nest_app with_history name writer app))
+step m (lines.Leave name writer) = on_app with_history m.apps name (λ app. Done (leave_app with_history name writer app))
+step m (lines.Write name ops writer) = on_app with_history m.apps name (write_app with_history name ops writer)
+step m (lines.Fetch name table query) = on_app with_history m.apps name (looks with_history (fetched name table query))
+step m (lines.Rows name table) = on_app with_history m.apps name (looks with_history (rows_shown name table))
+step m (lines.Observe name observer table query shape) = on_app with_history m.apps name (λ app. Done (observe_app with_history name observer table query shape app))
+step m (lines.Watch name observer table id to) = on_app with_history m.apps name (λ app. Done (watch_app with_history name observer table id to app))
+step m (lines.Turn name observer) = on_app with_history m.apps name (λ app. Done (turn_app name observer app))
+step m (lines.Drop name observer) = on_app with_history m.apps name (λ app. Done (drop_app with_history name observer app))
+step m (lines.Parent name table id to) = on_app with_history m.apps name (looks with_history (parent_shown name table id to))
+step m (lines.Children name table id to) = on_app with_history m.apps name (looks with_history (children_shown name table id to))
+
+-- ---- as the code has its apps
+
+abbrev pub kept_told : Told App → Told KeptApp
+kept_told t = record { app = app_kept t.app; items = t.items }
+
+abbrev pub kept_step : Stepped App → Stepped KeptApp
+kept_step s = record { after = kept_of s.after; items = s.items }
+
+abbrev pub kept_calls : Calls (Stepped App) → Calls (Stepped KeptApp)
+kept_calls calls = with_end kept_step calls
+
+abbrev pub is_turn : SeenLine → Bool
+is_turn (lines.Turn name observer) = true
+is_turn line = false
+
+-- The step over such apps of every line but a turn, which needs the opening rows and stands here for nothing.
+unfoldable pub plain_step : List KeptApp → SeenLine → Calls (Stepped KeptApp)
+plain_step apps (lines.Open name schema) = open_step as_kept apps name schema
+plain_step apps (lines.Close name) = Done (close_step as_kept apps name)
+plain_step apps (lines.Enter name writer) = on_app as_kept apps name (λ app. Done (enter_app as_kept name writer app))
+plain_step apps (lines.Nest name writer) = on_app as_kept apps name (λ app. Done (nest_app as_kept name writer app))
+plain_step apps (lines.Leave name writer) = on_app as_kept apps name (λ app. Done (leave_app as_kept name writer app))
+plain_step apps (lines.Write name ops writer) = on_app as_kept apps name (write_app as_kept name ops writer)
+plain_step apps (lines.Fetch name table query) = on_app as_kept apps name (looks as_kept (fetched name table query))
+plain_step apps (lines.Rows name table) = on_app as_kept apps name (looks as_kept (rows_shown name table))
+plain_step apps (lines.Observe name observer table query shape) = on_app as_kept apps name (λ app. Done (observe_app as_kept name observer table query shape app))
+plain_step apps (lines.Watch name observer table id to) = on_app as_kept apps name (λ app. Done (watch_app as_kept name observer table id to app))
+plain_step apps (lines.Turn name observer) = Done (ends_with (record { apps = apps }) [])
+plain_step apps (lines.Drop name observer) = on_app as_kept apps name (λ app. Done (drop_app as_kept name observer app))
+plain_step apps (lines.Parent name table id to) = on_app as_kept apps name (looks as_kept (parent_shown name table id to))
+plain_step apps (lines.Children name table id to) = on_app as_kept apps name (looks as_kept (children_shown name table id to))

@@ -477,3 +477,78 @@ fn the_holder_alone_writes(rt: HostRuntime) -> Result<(), Fail> {
         "open A rows 0 last 0\nenter A w1 holds\nenter A w2 waits 1\nrefused queue 2 \"w1\"\nrefused queue 2 \"w1\"\nwrite A at 1\nleave A w1 next w2\nleave A w2 free\nwrite A at 2\n",
     )
 }
+
+#[test]
+fn observers_emit_where_their_answer_changes(rt: HostRuntime) -> Result<(), Fail> {
+    expect(
+        &rt,
+        &[
+            OPENED,
+            r#"{"do":"observe","app":"A","name":"o1","table":"posts","query":{"where":[{"column":"score","op":"gt","value":0}]},"shape":"ids"}"#,
+            r#"{"do":"observe","app":"A","name":"o2","table":"posts","query":{"where":[{"column":"score","op":"gt","value":0}],"sortBy":[["id","asc"]]},"shape":"ids"}"#,
+            r#"{"do":"write","app":"A","ops":[{"create":"posts","id":"p1","set":{"score":1}}]}"#,
+            r#"{"do":"write","app":"A","ops":[{"create":"posts","id":"p2","set":{"score":0}}]}"#,
+            r#"{"do":"write","app":"A","ops":[{"create":"posts","id":"p3","set":{"score":2}}]}"#,
+            r#"{"do":"turn","app":"A","name":"o1"}"#,
+            r#"{"do":"turn","app":"A","name":"o2"}"#,
+            r#"{"do":"write","app":"A","ops":[{"update":"posts","id":"p1","set":{"score":0}}]}"#,
+            r#"{"do":"write","app":"A","ops":[{"update":"posts","id":"p1","set":{"score":5}}]}"#,
+            r#"{"do":"turn","app":"A","name":"o1"}"#,
+            r#"{"do":"turn","app":"A","name":"o2"}"#,
+            r#"{"do":"drop","app":"A","name":"o1"}"#,
+            r#"{"do":"turn","app":"A","name":"o1"}"#,
+        ],
+        &CALM,
+        Status::Done,
+        "open A rows 0 last 0\nemit A o1 at 0 []\nemit A o2 at 0 []\nwrite A at 1\nwrite A at 2\nwrite A at 3\nemit A o1 at 1 [\"p1\"]\nemit A o1 at 3 [\"p1\",\"p3\"]\nstill A o1 at 3\nemit A o2 at 3 [\"p1\",\"p3\"]\nstill A o2 at 3\nwrite A at 4\nwrite A at 5\nemit A o1 at 4 [\"p3\"]\nemit A o1 at 5 [\"p1\",\"p3\"]\nstill A o1 at 5\nstill A o2 at 5\ndrop A o1\nrefused observer 2 \"o1\"\n",
+    )
+}
+
+#[test]
+fn relations_lead_to_rows(rt: HostRuntime) -> Result<(), Fail> {
+    expect(
+        &rt,
+        &[
+            OPENED,
+            r#"{"do":"write","app":"A","ops":[{"create":"posts","id":"p1","set":{}},{"create":"comments","id":"c1","set":{"post_id":"p1"}},{"create":"comments","id":"c2","set":{"post_id":""}},{"create":"comments","id":"c3","set":{"post_id":"p9"}}]}"#,
+            r#"{"do":"parent","app":"A","table":"comments","id":"c1","to":"posts"}"#,
+            r#"{"do":"parent","app":"A","table":"comments","id":"c2","to":"posts"}"#,
+            r#"{"do":"parent","app":"A","table":"comments","id":"c3","to":"posts"}"#,
+            r#"{"do":"children","app":"A","table":"posts","id":"p1","to":"comments"}"#,
+            r#"{"do":"watch","app":"A","name":"r1","table":"comments","id":"c1","to":"posts"}"#,
+            r#"{"do":"write","app":"A","ops":[{"delete":"posts","id":"p1"}]}"#,
+            r#"{"do":"turn","app":"A","name":"r1"}"#,
+            r#"{"do":"parent","app":"A","table":"comments","id":"c9","to":"posts"}"#,
+            r#"{"do":"parent","app":"A","table":"posts","id":"p1","to":"posts"}"#,
+            r#"{"do":"children","app":"A","table":"comments","id":"c1","to":"posts"}"#,
+            r#"{"do":"watch","app":"A","name":"r1","table":"comments","id":"c1","to":"posts"}"#,
+            r#"{"do":"watch","app":"A","name":"r2","table":"notes","id":"c1","to":"posts"}"#,
+            r#"{"do":"watch","app":"A","name":"r2","table":"comments","id":"","to":"posts"}"#,
+        ],
+        &CALM,
+        Status::Done,
+        "open A rows 0 last 0\nwrite A at 1\nparent A {\"_changed\":\"\",\"_status\":\"created\",\"body\":\"\",\"id\":\"p1\",\"score\":null,\"title\":\"\"}\nparent A null\nparent A \"missing\"\nchildren A [\"c1\"]\nemit A r1 at 1 {\"_changed\":\"\",\"_status\":\"created\",\"body\":\"\",\"id\":\"p1\",\"score\":null,\"title\":\"\"}\nwrite A at 2\nemit A r1 at 2 \"missing\"\nstill A r1 at 2\nrefused relation 1\nrefused relation 1\nrefused relation 2\nrefused observer 1 \"r1\"\nrefused table 1 \"notes\"\nrefused relation 1\n",
+    )
+}
+
+#[test]
+fn shapes_show_columns(rt: HostRuntime) -> Result<(), Fail> {
+    expect(
+        &rt,
+        &[
+            OPENED,
+            r#"{"do":"write","app":"A","ops":[{"create":"posts","id":"p1","set":{"title":"a"}}]}"#,
+            r#"{"do":"observe","app":"A","name":"o1","table":"posts","query":{},"shape":["title"]}"#,
+            r#"{"do":"write","app":"A","ops":[{"update":"posts","id":"p1","set":{"score":3}}]}"#,
+            r#"{"do":"write","app":"A","ops":[{"update":"posts","id":"p1","set":{"title":"b"}}]}"#,
+            r#"{"do":"turn","app":"A","name":"o1"}"#,
+            r#"{"do":"observe","app":"A","name":"o2","table":"posts","query":{},"shape":["title","id"]}"#,
+            r#"{"do":"observe","app":"A","name":"o 3","table":"posts","query":{},"shape":"ids"}"#,
+            r#"{"do":"observe","app":"A","name":"o1","table":"posts","query":{},"shape":"ids"}"#,
+            r#"{"do":"observe","app":"A","name":"o3","table":"posts","query":{"sortBy":[["score","asc"]]},"shape":["score","title"]}"#,
+        ],
+        &CALM,
+        Status::Done,
+        "open A rows 0 last 0\nwrite A at 1\nemit A o1 at 1 [{\"id\":\"p1\",\"title\":\"a\"}]\nwrite A at 2\nwrite A at 3\nemit A o1 at 3 [{\"id\":\"p1\",\"title\":\"b\"}]\nstill A o1 at 3\nrefused query 3\nrefused observer 4 \"o 3\"\nrefused observer 1 \"o1\"\nemit A o3 at 3 [{\"id\":\"p1\",\"score\":3,\"title\":\"b\"}]\n",
+    )
+}

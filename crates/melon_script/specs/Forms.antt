@@ -4,8 +4,10 @@ use Rattle.std.specs.List.{list_all}
 use Rattle.serde_json.specs.Data.{Data}
 use Rattle.serde_json.specs.Find.{get, as_str}
 use Rattle.melon_schema.specs.Bytes.{json_of}
-use Rattle.melon_schema.specs.Json.{◌>>=◌, given, has_only, text_at}
-use Rattle.melon_script.specs.SeenLine.{SeenLine, Open, Close, Enter, Nest, Leave, Write, Fetch, Rows}
+use Rattle.melon_schema.specs.Json.{◌>>=◌, given, has_only, text_at, list_of, each}
+use Rattle.melon_script.specs.declared.line.LineShape.{LineShape}
+use Rattle.melon_script.specs.declared.line.LineShape.TheVariants.{Ids, Columns}
+use Rattle.melon_script.specs.SeenLine.{SeenLine, Open, Close, Enter, Nest, Leave, Write, Fetch, Rows, Observe, Watch, Turn, Drop, Parent, Children}
 
 abbrev pub part_at : List ℕ → Data → Option Data
 part_at key d = get key d
@@ -83,6 +85,75 @@ rows_form d = do
   table ← text_at (codes "table") d
   Some (Rows app table)
 
+-- "ids", or a list of column names
+abbrev pub shape_by : Data → Option (List ℕ) → Option LineShape
+shape_by d (Some word) = if bytes_eq word (codes "ids") then Some Ids else None
+shape_by d None = option_map Columns (list_of d >>= each as_str)
+
+abbrev pub shape_of : Data → Option LineShape
+shape_of d = shape_by d (as_str d)
+
+abbrev pub shape_at : List ℕ → Data → Option LineShape
+shape_at key d = get key d >>= shape_of
+
+-- {"do":"observe","app":text,"name":text,"table":text,"query":any,"shape":shape}
+unfoldable pub observe_form : Data → Option SeenLine
+observe_form d = do
+  known ← given (has_only (codes "do" ∷ codes "app" ∷ codes "name" ∷ codes "table" ∷ codes "query" ∷ codes "shape" ∷ []) d)
+  app ← text_at (codes "app") d
+  name ← text_at (codes "name") d
+  table ← text_at (codes "table") d
+  shape ← shape_at (codes "shape") d
+  query ← part_at (codes "query") d
+  Some (Observe app name table query shape)
+
+-- {"do":"watch","app":text,"name":text,"table":text,"id":text,"to":text}
+unfoldable pub watch_form : Data → Option SeenLine
+watch_form d = do
+  known ← given (has_only (codes "do" ∷ codes "app" ∷ codes "name" ∷ codes "table" ∷ codes "id" ∷ codes "to" ∷ []) d)
+  app ← text_at (codes "app") d
+  name ← text_at (codes "name") d
+  table ← text_at (codes "table") d
+  id ← text_at (codes "id") d
+  to ← text_at (codes "to") d
+  Some (Watch app name table id to)
+
+-- {"do":"turn","app":text,"name":text}
+unfoldable pub turn_form : Data → Option SeenLine
+turn_form d = do
+  known ← given (has_only (codes "do" ∷ codes "app" ∷ codes "name" ∷ []) d)
+  app ← text_at (codes "app") d
+  name ← text_at (codes "name") d
+  Some (Turn app name)
+
+-- {"do":"drop","app":text,"name":text}
+unfoldable pub drop_form : Data → Option SeenLine
+drop_form d = do
+  known ← given (has_only (codes "do" ∷ codes "app" ∷ codes "name" ∷ []) d)
+  app ← text_at (codes "app") d
+  name ← text_at (codes "name") d
+  Some (Drop app name)
+
+-- {"do":"parent","app":text,"table":text,"id":text,"to":text}
+unfoldable pub parent_form : Data → Option SeenLine
+parent_form d = do
+  known ← given (has_only (codes "do" ∷ codes "app" ∷ codes "table" ∷ codes "id" ∷ codes "to" ∷ []) d)
+  app ← text_at (codes "app") d
+  table ← text_at (codes "table") d
+  id ← text_at (codes "id") d
+  to ← text_at (codes "to") d
+  Some (Parent app table id to)
+
+-- {"do":"children","app":text,"table":text,"id":text,"to":text}
+unfoldable pub children_form : Data → Option SeenLine
+children_form d = do
+  known ← given (has_only (codes "do" ∷ codes "app" ∷ codes "table" ∷ codes "id" ∷ codes "to" ∷ []) d)
+  app ← text_at (codes "app") d
+  table ← text_at (codes "table") d
+  id ← text_at (codes "id") d
+  to ← text_at (codes "to") d
+  Some (Children app table id to)
+
 unfoldable pub form_of : Data → Option SeenLine
 form_of d = do
   word ← text_at (codes "do") d
@@ -93,7 +164,13 @@ form_of d = do
       (if bytes_eq word (codes "leave") then leave_form d else
       (if bytes_eq word (codes "write") then write_form d else
       (if bytes_eq word (codes "fetch") then fetch_form d else
-      (if bytes_eq word (codes "rows") then rows_form d else None)))))))
+      (if bytes_eq word (codes "rows") then rows_form d else
+      (if bytes_eq word (codes "observe") then observe_form d else
+      (if bytes_eq word (codes "watch") then watch_form d else
+      (if bytes_eq word (codes "turn") then turn_form d else
+      (if bytes_eq word (codes "drop") then drop_form d else
+      (if bytes_eq word (codes "parent") then parent_form d else
+      (if bytes_eq word (codes "children") then children_form d else None)))))))))))))
 
 -- spaces and tabs alone
 abbrev pub is_blank : List ℕ → Bool

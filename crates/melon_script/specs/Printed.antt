@@ -1,10 +1,15 @@
 -- The printed texts.
 use Rattle.std.specs.Prelude.{ℕ, List, [], ◌∷◌, ◌++◌, map, codes, decimal}
-use Rattle.serde_json.specs.Data.{array, string}
+use Rattle.serde_json.specs.Data.{Data, Members, no_members, put, array, object, string}
 use Rattle.serde_json.specs.View.{items_of}
 use Rattle.serde_json.specs.Written.{compact_text}
+use Rattle.melon_raw.specs.Encoding.{datum_data}
+use Rattle.melon_raw.specs.declared.datum.OpField.{OpField}
 use Rattle.melon_script.specs.declared.item.Item.{Item}
-use Rattle.melon_script.specs.declared.item.Item.TheVariants.{Open, Close, EnterHolds, EnterWaits, Nest, LeaveDepth, LeaveNext, LeaveFree, Write, Fetch, Rows, Refused}
+use Rattle.melon_script.specs.declared.item.Item.TheVariants.{Open, Close, EnterHolds, EnterWaits, Nest, LeaveDepth, LeaveNext, LeaveFree, Write, Fetch, Rows, Emit, Still, Drop, Parent, Children, Refused}
+use Rattle.melon_script.specs.declared.item.Given.{Given}
+use Rattle.melon_script.specs.declared.item.Given.TheVariants as given
+use Rattle.melon_script.specs.declared.item.GivenRow.{GivenRow}
 use Rattle.melon_script.specs.declared.item.Group.{Group}
 use Rattle.melon_script.specs.declared.item.Group.TheVariants as groups
 use Rattle.melon_script.specs.declared.item.Detail.{Detail}
@@ -64,6 +69,53 @@ rows_head app table = codes "rows " ++ (app ++ (codes " " ++ (table ++ codes " [
 abbrev pub rows_text : List ℕ → List ℕ → List (List ℕ) → List ℕ
 rows_text app table rows = (rows_head app table ++ joined rows) ++ (93 ∷ 10 ∷ [])
 
+-- ---- what is shown
+
+-- these members, and each field's value under its column's name
+abbrev pub with_fields : List OpField → Members → Members
+with_fields [] ms = ms
+with_fields (f ∷ fs) ms = with_fields fs (put f.column (datum_data f.value) ms)
+
+-- a row as a JSON object with its id and the named columns
+abbrev pub given_row_data : GivenRow → Data
+given_row_data row = object (with_fields row.fields (put (codes "id") (string row.id) no_members))
+
+abbrev pub given_row_text : GivenRow → List ℕ
+given_row_text row = compact_text (given_row_data row)
+
+abbrev pub given_rows_text : List GivenRow → List ℕ
+given_rows_text rows = codes "[" ++ (joined (map given_row_text rows) ++ codes "]")
+
+abbrev pub given_text : Given → List ℕ
+given_text (given.Ids ids) = list_text ids
+given_text (given.Rows rows) = given_rows_text rows
+given_text given.Nothing = codes "null"
+given_text given.Missing = quoted (codes "missing")
+given_text (given.Row body) = body
+
+abbrev pub emit_head : List ℕ → List ℕ → ℕ → List ℕ
+emit_head app name at = codes "emit " ++ (app ++ (codes " " ++ (name ++ (codes " at " ++ (decimal at ++ codes " ")))))
+
+abbrev pub emit_text : List ℕ → List ℕ → ℕ → Given → List ℕ
+emit_text app name at shown = (emit_head app name at ++ given_text shown) ++ 10 ∷ []
+
+abbrev pub still_text : List ℕ → List ℕ → ℕ → List ℕ
+still_text app name at = codes "still " ++ (app ++ (codes " " ++ (name ++ (codes " at " ++ (decimal at ++ 10 ∷ [])))))
+
+abbrev pub drop_text : List ℕ → List ℕ → List ℕ
+drop_text app name = codes "drop " ++ (app ++ (codes " " ++ (name ++ 10 ∷ [])))
+
+abbrev pub parent_head : List ℕ → List ℕ
+parent_head app = codes "parent " ++ (app ++ codes " ")
+
+abbrev pub parent_text : List ℕ → Given → List ℕ
+parent_text app shown = (parent_head app ++ given_text shown) ++ 10 ∷ []
+
+abbrev pub children_text : List ℕ → List (List ℕ) → List ℕ
+children_text app ids = codes "children " ++ (app ++ (codes " " ++ (list_text ids ++ 10 ∷ [])))
+
+-- ---- refusals
+
 abbrev pub group_word : Group → List ℕ
 group_word groups.App = codes "app"
 group_word groups.Open = codes "open"
@@ -74,6 +126,8 @@ group_word groups.Ops = codes "ops"
 group_word groups.Batch = codes "batch"
 group_word groups.Full = codes "full"
 group_word groups.Query = codes "query"
+group_word groups.Observer = codes "observer"
+group_word groups.Relation = codes "relation"
 group_word groups.Keeper = codes "keeper"
 
 abbrev pub detail_text : Detail → List ℕ
@@ -104,6 +158,11 @@ item_text (LeaveFree app writer) = free_text app writer
 item_text (Write app at) = write_text app at
 item_text (Fetch app ids) = fetch_text app ids
 item_text (Rows app table rows) = rows_text app table rows
+item_text (Emit app name at shown) = emit_text app name at shown
+item_text (Still app name at) = still_text app name at
+item_text (Drop app name) = drop_text app name
+item_text (Parent app shown) = parent_text app shown
+item_text (Children app ids) = children_text app ids
 item_text (Refused group number details) = refused_text group number details
 
 -- the items of an answer, one after another

@@ -1,5 +1,5 @@
 //! What is printed, as values.
-use melon_raw::Id;
+use melon_raw::{Id, OpField};
 use melon_schema::{List, Text};
 
 /// One printed line.
@@ -56,11 +56,54 @@ pub enum Item {
         table: Text,
         rows: List<List<u8>>,
     },
+    /// What an observer or a watch shows after so many entries.
+    Emit {
+        app: Text,
+        name: Id,
+        at: u64,
+        given: Given,
+    },
+    /// Nothing new up to this number of entries.
+    Still {
+        app: Text,
+        name: Id,
+        at: u64,
+    },
+    Drop {
+        app: Text,
+        name: Id,
+    },
+    Parent {
+        app: Text,
+        given: Given,
+    },
+    Children {
+        app: Text,
+        ids: List<Id>,
+    },
     Refused {
         group: Group,
         number: u64,
         details: List<Detail>,
     },
+}
+
+/// What is shown: the ids of an answer, or its ids with named columns; or of a relation to one row nothing, that the row
+/// is missing, or the row's encoding.
+#[derive(Debug, Drop)]
+pub enum Given {
+    Ids(List<Id>),
+    Rows(List<GivenRow>),
+    Nothing,
+    Missing,
+    Row(List<u8>),
+}
+
+/// A row of an answer: its id, and the named columns with their values. Of several fields of one column the last counts.
+#[derive(Debug, Drop)]
+pub struct GivenRow {
+    pub id: Id,
+    pub fields: List<OpField>,
 }
 
 /// What a refusal speaks of.
@@ -75,6 +118,8 @@ pub enum Group {
     Batch,
     Full,
     Query,
+    Observer,
+    Relation,
     Keeper,
 }
 

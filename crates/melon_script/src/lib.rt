@@ -8,7 +8,7 @@ pub mod lines;
 pub mod printing;
 
 pub use answer::Answer;
-pub use item::{Detail, Group, Item};
-pub use line::{Line, LineFault};
+pub use item::{Detail, Given, GivenRow, Group, Item};
+pub use line::{Line, LineFault, LineShape};
 pub use lines::next_line;
 pub use printing::print;

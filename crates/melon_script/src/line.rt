@@ -3,10 +3,10 @@ ghost use Rattle.std.specs.Prelude.{◌≡◌, Some};
 ghost use Rattle.serde_json.specs.View.{view};
 ghost use Rattle.melon_schema.specs.Refusals.{Answers};
 ghost use Rattle.melon_script.specs.Seen.{seen, AnswersSeen, ReadsLine, Takes};
-ghost use Rattle.melon_script.specs.Forms.{open_form, close_form, enter_form, nest_form, leave_form, text_if_at, write_form, fetch_form, rows_form, form_of, is_blank, line_of, part_at};
+ghost use Rattle.melon_script.specs.Forms.{open_form, close_form, enter_form, nest_form, leave_form, text_if_at, write_form, fetch_form, rows_form, shape_of, shape_at, observe_form, watch_form, turn_form, drop_form, parent_form, children_form, form_of, is_blank, line_of, part_at};
 
-use melon_schema::reader::{has_only, json_of, text_at};
-use melon_schema::{Refusal, Text};
+use melon_schema::reader::{has_only, items_of, json_of, read_each, text_at};
+use melon_schema::{List, Refusal, Text};
 use serde_json::Value;
 use std::alloc::Global;
 
@@ -47,6 +47,47 @@ pub enum Line {
         app: Text,
         table: Text,
     },
+    Observe {
+        app: Text,
+        name: Text,
+        table: Text,
+        query: Value,
+        shape: LineShape,
+    },
+    Watch {
+        app: Text,
+        name: Text,
+        table: Text,
+        id: Text,
+        to: Text,
+    },
+    Turn {
+        app: Text,
+        name: Text,
+    },
+    Drop {
+        app: Text,
+        name: Text,
+    },
+    Parent {
+        app: Text,
+        table: Text,
+        id: Text,
+        to: Text,
+    },
+    Children {
+        app: Text,
+        table: Text,
+        id: Text,
+        to: Text,
+    },
+}
+
+/// What an observer is to show: the ids, or the ids with the columns of these names.
+#[derive(Drop)]
+pub enum LineShape {
+    Ids,
+    Columns(List<Text>),
 }
 
 /// Why a line was not read.
@@ -177,6 +218,128 @@ fn rows_form(alloc: Global, json: &Value) -> Result<Line, Refusal>
     Ok(Line::Rows { app, table })
 }
 
+fn shape_of(alloc: Global, json: &Value) -> Result<LineShape, Refusal>
+    ensures { Answers result (shape_of (view json.now)) }
+{
+    match json.as_str() {
+        Some(word) => {
+            if word == "ids" {
+                Ok(LineShape::Ids)
+            } else {
+                Err(Refusal::Form)
+            }
+        }
+        None => match items_of(json) {
+            Some(items) => Ok(LineShape::Columns(read_each(alloc, items)?)),
+            None => Err(Refusal::Form),
+        },
+    }
+}
+
+/// The shape under a key.
+fn shape_at(alloc: Global, json: &Value, key: &str) -> Result<LineShape, Refusal>
+    ensures { Answers result (shape_at key.now (view json.now)) }
+{
+    match json.get(key) {
+        Some(part) => shape_of(alloc, part),
+        None => Err(Refusal::Form),
+    }
+}
+
+#[tactic(auto, unfolding(crate::specs::Forms::observe_form))]
+fn observe_form(alloc: Global, json: &mut Value) -> Result<Line, Refusal>
+    ensures { AnswersSeen result (observe_form (view json.old)) }
+{
+    if !has_only(json, &["do", "app", "name", "table", "query", "shape"]) {
+        return Err(Refusal::Form);
+    }
+    let app = text_at(alloc, json, "app")?;
+    let name = text_at(alloc, json, "name")?;
+    let table = text_at(alloc, json, "table")?;
+    let shape = shape_at(alloc, json, "shape")?;
+    let query = take_part(json, "query")?;
+    Ok(Line::Observe {
+        app,
+        name,
+        table,
+        query,
+        shape,
+    })
+}
+
+#[tactic(auto, unfolding(crate::specs::Forms::watch_form))]
+fn watch_form(alloc: Global, json: &Value) -> Result<Line, Refusal>
+    ensures { AnswersSeen result (watch_form (view json.now)) }
+{
+    if !has_only(json, &["do", "app", "name", "table", "id", "to"]) {
+        return Err(Refusal::Form);
+    }
+    let app = text_at(alloc, json, "app")?;
+    let name = text_at(alloc, json, "name")?;
+    let table = text_at(alloc, json, "table")?;
+    let id = text_at(alloc, json, "id")?;
+    let to = text_at(alloc, json, "to")?;
+    Ok(Line::Watch {
+        app,
+        name,
+        table,
+        id,
+        to,
+    })
+}
+
+#[tactic(auto, unfolding(crate::specs::Forms::turn_form))]
+fn turn_form(alloc: Global, json: &Value) -> Result<Line, Refusal>
+    ensures { AnswersSeen result (turn_form (view json.now)) }
+{
+    if !has_only(json, &["do", "app", "name"]) {
+        return Err(Refusal::Form);
+    }
+    let app = text_at(alloc, json, "app")?;
+    let name = text_at(alloc, json, "name")?;
+    Ok(Line::Turn { app, name })
+}
+
+#[tactic(auto, unfolding(crate::specs::Forms::drop_form))]
+fn drop_form(alloc: Global, json: &Value) -> Result<Line, Refusal>
+    ensures { AnswersSeen result (drop_form (view json.now)) }
+{
+    if !has_only(json, &["do", "app", "name"]) {
+        return Err(Refusal::Form);
+    }
+    let app = text_at(alloc, json, "app")?;
+    let name = text_at(alloc, json, "name")?;
+    Ok(Line::Drop { app, name })
+}
+
+#[tactic(auto, unfolding(crate::specs::Forms::parent_form))]
+fn parent_form(alloc: Global, json: &Value) -> Result<Line, Refusal>
+    ensures { AnswersSeen result (parent_form (view json.now)) }
+{
+    if !has_only(json, &["do", "app", "table", "id", "to"]) {
+        return Err(Refusal::Form);
+    }
+    let app = text_at(alloc, json, "app")?;
+    let table = text_at(alloc, json, "table")?;
+    let id = text_at(alloc, json, "id")?;
+    let to = text_at(alloc, json, "to")?;
+    Ok(Line::Parent { app, table, id, to })
+}
+
+#[tactic(auto, unfolding(crate::specs::Forms::children_form))]
+fn children_form(alloc: Global, json: &Value) -> Result<Line, Refusal>
+    ensures { AnswersSeen result (children_form (view json.now)) }
+{
+    if !has_only(json, &["do", "app", "table", "id", "to"]) {
+        return Err(Refusal::Form);
+    }
+    let app = text_at(alloc, json, "app")?;
+    let table = text_at(alloc, json, "table")?;
+    let id = text_at(alloc, json, "id")?;
+    let to = text_at(alloc, json, "to")?;
+    Ok(Line::Children { app, table, id, to })
+}
+
 #[tactic(auto, unfolding(crate::specs::Forms::form_of))]
 fn form_of(alloc: Global, json: &mut Value) -> Result<Line, Refusal>
     ensures { AnswersSeen result (form_of (view json.old)) }
@@ -191,6 +354,12 @@ fn form_of(alloc: Global, json: &mut Value) -> Result<Line, Refusal>
         "write" => write_form(alloc, json),
         "fetch" => fetch_form(alloc, json),
         "rows" => rows_form(alloc, json),
+        "observe" => observe_form(alloc, json),
+        "watch" => watch_form(alloc, json),
+        "turn" => turn_form(alloc, json),
+        "drop" => drop_form(alloc, json),
+        "parent" => parent_form(alloc, json),
+        "children" => children_form(alloc, json),
         _ => Err(Refusal::Form),
     }
 }

@@ -1,12 +1,13 @@
 //! The texts of items.
-ghost use Rattle.std.specs.Prelude.{◌≡◌, ◌++◌, IfOk, OnOk, string_bytes};
-ghost use Rattle.melon_script.specs.Printed.{list_text, quoted, with_commas, joined, open_text, close_text, holds_text, waits_text, nest_text, depth_text, next_text, free_text, write_text, fetch_text, rows_head, rows_text, group_word, detail_text, details_text, refused_head, refused_text, item_text, answer_text};
+ghost use Rattle.std.specs.Prelude.{◌≡◌, ◌++◌, map, IfOk, OnOk, string_bytes};
+ghost use Rattle.serde_json.specs.View.{view, members_view};
+ghost use Rattle.melon_script.specs.Printed.{list_text, quoted, with_commas, joined, open_text, close_text, holds_text, waits_text, nest_text, depth_text, next_text, free_text, write_text, fetch_text, rows_head, rows_text, with_fields, given_row_data, given_row_text, given_rows_text, given_text, emit_head, emit_text, still_text, drop_text, parent_head, parent_text, children_text, group_word, detail_text, details_text, refused_head, refused_text, item_text, answer_text};
 
 use crate::Answer;
-use crate::item::{Detail, Group, Item};
-use melon_raw::Id;
+use crate::item::{Detail, Given, GivenRow, Group, Item};
+use melon_raw::{Id, OpField};
 use melon_schema::List;
-use serde_json::Value;
+use serde_json::{Map, Value, put};
 use std::alloc::{AllocError, Global};
 
 fn list_text(alloc: Global, ids: &[Id]) -> Result<String, AllocError>
@@ -131,6 +132,158 @@ fn rows_text(
     Ok(out)
 }
 
+/// Puts each field's value under its column's name.
+fn put_fields(
+    members: &mut Map<String, Value>,
+    alloc: Global,
+    fields: &[OpField],
+) -> Result<(), AllocError>
+    ensures { OnOk result (members_view members.new.entries ≡ with_fields fields.now (members_view members.old.entries)) }
+{
+    for field in fields {
+        put(
+            members,
+            alloc,
+            field.column.as_str(),
+            field.value.to_json(alloc)?,
+        )?;
+    }
+    Ok(())
+}
+
+fn given_row_json(alloc: Global, row: &GivenRow) -> Result<Value, AllocError>
+    ensures { IfOk result (λ json. view json ≡ given_row_data row.now) }
+{
+    let mut members = Map::new(alloc);
+    let id = Value::try_from_str(alloc, row.id.as_str())?;
+    put(&mut members, alloc, "id", id)?;
+    put_fields(&mut members, alloc, row.fields.as_slice())?;
+    Ok(Value::from(members))
+}
+
+/// The text of a row's object.
+fn given_row_text(alloc: Global, row: &GivenRow) -> Result<String, AllocError>
+    ensures { IfOk result (λ text. string_bytes text ≡ given_row_text row.now) }
+{
+    let json = given_row_json(alloc, row)?;
+    json.to_string(alloc)
+}
+
+/// Adds each behind a comma.
+fn put_rows_with_commas(
+    alloc: Global,
+    out: &mut Vec<u8>,
+    rows: &[GivenRow],
+) -> Result<(), AllocError>
+    ensures { OnOk result (out.new.items ≡ out.old.items ++ with_commas (map given_row_text rows.now)) }
+{
+    for row in rows {
+        let text = given_row_text(alloc, row)?;
+        out.extend_from_slice(b",")?;
+        out.extend_from_slice(text.as_bytes())?;
+    }
+    Ok(())
+}
+
+/// Adds them one after another, with commas between.
+fn put_rows_joined(alloc: Global, out: &mut Vec<u8>, rows: &[GivenRow]) -> Result<(), AllocError>
+    ensures { OnOk result (out.new.items ≡ out.old.items ++ joined (map given_row_text rows.now)) }
+{
+    match rows {
+        [] => Ok(()),
+        [first, rest @ ..] => {
+            let text = given_row_text(alloc, first)?;
+            out.extend_from_slice(text.as_bytes())?;
+            put_rows_with_commas(alloc, out, rest)
+        }
+    }
+}
+
+/// Adds a list of rows.
+fn put_rows(alloc: Global, out: &mut Vec<u8>, rows: &[GivenRow]) -> Result<(), AllocError>
+    ensures { OnOk result (out.new.items ≡ out.old.items ++ given_rows_text rows.now) }
+{
+    out.push(b'[')?;
+    put_rows_joined(alloc, out, rows)?;
+    out.push(b']')?;
+    Ok(())
+}
+
+/// Adds what is shown.
+fn put_given(alloc: Global, out: &mut Vec<u8>, given: &Given) -> Result<(), AllocError>
+    ensures { OnOk result (out.new.items ≡ out.old.items ++ given_text given.now) }
+{
+    match given {
+        Given::Ids(ids) => {
+            let text = list_text(alloc, ids.as_slice())?;
+            out.extend_from_slice(text.as_bytes())
+        }
+        Given::Rows(rows) => put_rows(alloc, out, rows.as_slice()),
+        Given::Nothing => out.extend_from_slice(b"null"),
+        Given::Missing => {
+            let text = quoted(alloc, "missing")?;
+            out.extend_from_slice(text.as_bytes())
+        }
+        Given::Row(body) => out.extend_from_slice(body.as_slice()),
+    }
+}
+
+fn emit_head(alloc: Global, app: &str, name: &str, at: u64) -> Result<String, AllocError>
+    ensures { IfOk result (λ text. string_bytes text ≡ emit_head app.now name.now at) }
+{
+    format!(in alloc; "emit {app} {name} at {at} ")
+}
+
+fn emit_text(
+    alloc: Global,
+    app: &str,
+    name: &str,
+    at: u64,
+    given: &Given,
+) -> Result<Vec<u8>, AllocError>
+    ensures { IfOk result (λ out. out.items ≡ emit_text app.now name.now at given.now) }
+{
+    let mut out = emit_head(alloc, app, name, at)?.into_bytes();
+    put_given(alloc, &mut out, given)?;
+    out.push(b'\n')?;
+    Ok(out)
+}
+
+fn still_text(alloc: Global, app: &str, name: &str, at: u64) -> Result<String, AllocError>
+    ensures { IfOk result (λ text. string_bytes text ≡ still_text app.now name.now at) }
+{
+    format!(in alloc; "still {app} {name} at {at}\n")
+}
+
+fn drop_text(alloc: Global, app: &str, name: &str) -> Result<String, AllocError>
+    ensures { IfOk result (λ text. string_bytes text ≡ drop_text app.now name.now) }
+{
+    format!(in alloc; "drop {app} {name}\n")
+}
+
+fn parent_head(alloc: Global, app: &str) -> Result<String, AllocError>
+    ensures { IfOk result (λ text. string_bytes text ≡ parent_head app.now) }
+{
+    format!(in alloc; "parent {app} ")
+}
+
+fn parent_text(alloc: Global, app: &str, given: &Given) -> Result<Vec<u8>, AllocError>
+    ensures { IfOk result (λ out. out.items ≡ parent_text app.now given.now) }
+{
+    let mut out = parent_head(alloc, app)?.into_bytes();
+    put_given(alloc, &mut out, given)?;
+    out.push(b'\n')?;
+    Ok(out)
+}
+
+fn children_text(alloc: Global, app: &str, ids: &[Id]) -> Result<String, AllocError>
+    ensures { IfOk result (λ text. string_bytes text ≡ children_text app.now ids.now) }
+{
+    let list = list_text(alloc, ids)?;
+    let list = list.as_str();
+    format!(in alloc; "children {app} {list}\n")
+}
+
 fn group_word(group: Group) -> &'static str
     ensures { result.now ≡ group_word group }
 {
@@ -144,6 +297,8 @@ fn group_word(group: Group) -> &'static str
         Group::Batch => "batch",
         Group::Full => "full",
         Group::Query => "query",
+        Group::Observer => "observer",
+        Group::Relation => "relation",
         Group::Keeper => "keeper",
     }
 }
@@ -226,6 +381,22 @@ fn item_text(alloc: Global, item: &Item) -> Result<Vec<u8>, AllocError>
         }
         Item::Rows { app, table, rows } => {
             rows_text(alloc, app.as_str(), table.as_str(), rows.as_slice())
+        }
+        Item::Emit {
+            app,
+            name,
+            at,
+            given,
+        } => emit_text(alloc, app.as_str(), name.as_str(), *at, given),
+        Item::Still { app, name, at } => {
+            Ok(still_text(alloc, app.as_str(), name.as_str(), *at)?.into_bytes())
+        }
+        Item::Drop { app, name } => {
+            Ok(drop_text(alloc, app.as_str(), name.as_str())?.into_bytes())
+        }
+        Item::Parent { app, given } => parent_text(alloc, app.as_str(), given),
+        Item::Children { app, ids } => {
+            Ok(children_text(alloc, app.as_str(), ids.as_slice())?.into_bytes())
         }
         Item::Refused {
             group,

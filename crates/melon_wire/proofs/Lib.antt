@@ -1,0 +1,7 @@
+pub mod Members
+pub mod WireBack
+pub mod KeyOrder
+pub mod Ascent
+pub mod KeyedLists
+pub mod Equals
+pub mod HaveIds

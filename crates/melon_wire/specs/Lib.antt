@@ -1,0 +1,12 @@
+pub mod Faults
+pub mod Forms
+pub mod Reading
+pub mod Writing
+pub mod Keys
+pub mod Resolution
+pub mod Standing
+pub mod Fates
+pub mod Same
+pub mod Collected
+pub mod Sent
+pub mod Settled

@@ -1,3 +1,5 @@
+ghost use Rattle.std.specs.Prelude.{◌≡◌};
+
 use melon_raw::{Id, Raw};
 use melon_schema::List;
 
@@ -21,4 +23,15 @@ pub struct Fetch {
     pub created: List<Held>,
     pub updated: List<Held>,
     pub deleted: List<Gone>,
+}
+
+impl Fetch {
+    ghost use Rattle.melon_wire.specs.Collected.{is_nothing};
+
+    /// Whether nothing was collected.
+    pub fn is_empty(&self) -> bool
+        ensures { result ≡ is_nothing self.now }
+    {
+        self.created.is_empty() && self.updated.is_empty() && self.deleted.is_empty()
+    }
 }

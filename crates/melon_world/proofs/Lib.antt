@@ -1,4 +1,10 @@
 pub mod Dropped
+pub mod Fields
 pub mod Meeting
 pub mod Opened
+pub mod Places
+pub mod Turns
+pub mod Turned
+pub mod Stepping
+pub mod Watched
 pub mod Written

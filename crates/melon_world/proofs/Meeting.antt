@@ -15,7 +15,7 @@ use Rattle.melon_machine.specs.Step.{Told, told, Stepped, stepped, put_back, on_
 use Rattle.melon_machine.proofs.Followed.{changes_same, rose_none}
 use Rattle.melon_world.specs.Handled.{IsHandled}
 
-slice_get_or : {X : Type 0} (xs : List X) (i : ℕ) (d : X) → i < length xs → slice_get xs i ≡ Some (get_or xs i d)
+pub slice_get_or : {X : Type 0} (xs : List X) (i : ℕ) (d : X) → i < length xs → slice_get xs i ≡ Some (get_or xs i d)
 slice_get_or [] i d h = absurd (omega (arith, h))
 slice_get_or (x ∷ xs) zero d h = refl
 slice_get_or (x ∷ xs) (suc i) d h = slice_get_or xs i d (omega (arith, h))
@@ -39,7 +39,7 @@ module _ (before now : Stores → Type 0) (count count' : ℕ) where
   follows_at_end : {X Y : Type 0} (f : X → Y) (calls : Calls X) (was : Stores) (used : List Bool) (x : X) (m : Stores) → Follows calls was used x m → Follows (with_end f calls) was used (f x) m
   follows_at_end f (Done y) was used x m h = (h.0, ap f h.1, h.2)
   follows_at_end f (Load name does) was [] x m h = absurd h
-  follows_at_end f (Load name does) was (true ∷ used) x m h = follows_at_end f (does (Some (was name))) was used x m h
+  follows_at_end f (Load name does) was (true ∷ used) x m h = (h.0, follows_at_end f (does (Some (was name))) was used x m h.1)
   follows_at_end f (Load name does) was (false ∷ used) x m h = follows_at_end f (does None) was used x m h
   follows_at_end f (Commit name batch does) was [] x m h = absurd h
   follows_at_end f (Commit name batch does) was (true ∷ used) x m h = follows_at_end f (does true) (after_batch name batch was) used x m h

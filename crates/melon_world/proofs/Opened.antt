@@ -3,6 +3,7 @@ use Rattle.std.proofs.Common.{◌≡◌, ◌≢◌, ℕ, ◌+◌, ◌≤◌, Lis
 use Rattle.std.specs.Prelude.{Option, Some, None, Result, Ok, Err, IfOk, OnErr}
 use Rattle.melon_schema.specs.Seen.{SeenSchema}
 use Rattle.melon_outside.specs.Causes.{Rose, HasCauseOf}
+use Rattle.melon_outside.specs.Kept.{is_in_order}
 use Rattle.melon_outside.specs.Keeping.{Stores, AreSame}
 use Rattle.melon_outside.specs.declared.kept.Kept.{Kept}
 use Rattle.melon_outside.specs.declared.kept.OpenFault.{OpenFault}
@@ -25,7 +26,7 @@ module _ (before now : Stores → Type 0) (count count' : ℕ) (name : List ℕ)
   abbrev Ends : List KeptApp → Item → Type 0
   Ends left item = Meets (opens_under as_kept apps name (Ok schema)) before now count count' (stepped left item)
 
-  opened : (store : SeenStore) → Opens before now name schema (Ok store) → count ≤ count' → Ends (apps ++ kept_app store no_writers ∷ []) (items.Open name (row_count store.rows) store.last)
+  opened : (store : SeenStore) → Opens before now name schema (Ok store) → count ≤ count' → Ends (apps ++ kept_app store no_writers [] ∷ []) (items.Open name (row_count store.rows) store.last)
   opened store h later m holds =
       let kept = h.0 in
       let told = h.2.told m holds in
@@ -34,8 +35,11 @@ module _ (before now : Stores → Type 0) (count count' : ℕ) (name : List ℕ)
         told.0,
         told.1,
         true ∷ a.0,
-        subst (λ (k : Kept). Follows (opens_by as_kept apps name (open_plan name schema k)) told.0 a.0 done m) told.2
-            (subst (λ (p : Result Plan OpenFault). Follows (opens_by as_kept apps name p) told.0 a.0 done m) (sym h.1) a.1),
+        (
+          subst (λ (k : Kept). is_in_order k ≡ true) told.2 h.2.ordered,
+          subst (λ (k : Kept). Follows (opens_by as_kept apps name (open_plan name schema k)) told.0 a.0 done m) told.2
+              (subst (λ (p : Result Plan OpenFault). Follows (opens_by as_kept apps name p) told.0 a.0 done m) (sym h.1) a.1),
+        ),
         omega (arith, a.2, later),
       )
 
@@ -45,8 +49,11 @@ module _ (before now : Stores → Type 0) (count count' : ℕ) (name : List ℕ)
         told.0,
         told.1,
         true ∷ [],
-        subst (λ (k : Kept). Follows (opens_by as_kept apps name (open_plan name schema k)) told.0 [] (stepped apps (open_refusal fault)) m) told.2
-            (subst (λ (p : Result Plan OpenFault). Follows (opens_by as_kept apps name p) told.0 [] (stepped apps (open_refusal fault)) m) (sym is) (refl, refl, told.3)),
+        (
+          subst (λ (k : Kept). is_in_order k ≡ true) told.2 over.ordered,
+          subst (λ (k : Kept). Follows (opens_by as_kept apps name (open_plan name schema k)) told.0 [] (stepped apps (open_refusal fault)) m) told.2
+              (subst (λ (p : Result Plan OpenFault). Follows (opens_by as_kept apps name p) told.0 [] (stepped apps (open_refusal fault)) m) (sym is) (refl, refl, told.3)),
+        ),
         rose_none count count' later,
       )
 
@@ -78,12 +85,12 @@ module _ (before now : Stores → Type 0) (count count' : ℕ) (name : List ℕ)
   err_cause Memory cause is = absurd (grind (arith, is))
 
   pub handled_ok : {E : Type 0} (left : List KeptApp) (store : SeenStore) (said : List ℕ) (rows last : ℕ) → said ≡ name → Opens before now name schema (Ok store) → count ≤ count'
-      → left ≡ apps ++ kept_app store no_writers ∷ [] → rows ≡ row_count store.rows → last ≡ store.last
+      → left ≡ apps ++ kept_app store no_writers [] ∷ [] → rows ≡ row_count store.rows → last ≡ store.last
       → IsHandled {E = E} (opens_under as_kept apps name (Ok schema)) (stepped left) is_of_keeper before now count count' apps left (Ok (items.Open said rows last))
   handled_ok left store said rows last same h later is rows_are last_is = record {
-    met = subst (λ (l : List KeptApp). Ends l (items.Open said rows last)) (sym is) (subst (λ (n : List ℕ). Ends (apps ++ kept_app store no_writers ∷ []) (items.Open n rows last)) (sym same)
-        (subst (λ (n : ℕ). Ends (apps ++ kept_app store no_writers ∷ []) (items.Open name n last)) (sym rows_are)
-        (subst (λ (n : ℕ). Ends (apps ++ kept_app store no_writers ∷ []) (items.Open name (row_count store.rows) n)) (sym last_is) (opened store h later))));
+    met = subst (λ (l : List KeptApp). Ends l (items.Open said rows last)) (sym is) (subst (λ (n : List ℕ). Ends (apps ++ kept_app store no_writers [] ∷ []) (items.Open n rows last)) (sym same)
+        (subst (λ (n : ℕ). Ends (apps ++ kept_app store no_writers [] ∷ []) (items.Open name n last)) (sym rows_are)
+        (subst (λ (n : ℕ). Ends (apps ++ kept_app store no_writers [] ∷ []) (items.Open name (row_count store.rows) n)) (sym last_is) (opened store h later))));
     same = tt;
     held = tt;
     later = later;

@@ -39,17 +39,17 @@ module _ (before now : Stores → Type 0) (count count' : ℕ) (name : List ℕ)
   Held result = (m : Stores) → now m → (w : Stores) × before w × IsDoneOnOk (asked plan) (store_key was.store.name) result w m
 
   abbrev Ends : SeenStore → Item → Type 0
-  Ends left item = Meets (writes_by as_kept name was plan) before now count count' (told (kept_app left was.queue) item)
+  Ends left item = Meets (writes_by as_kept name was plan) before now count count' (told (kept_app left was.queue was.observers) item)
 
   pub written : (left : SeenStore) (at : ℕ) → IsWritten plan was.store left (Ok at) → Held (Ok at) → count ≤ count' → Ends left (items.Write name at)
   written left at h held later m holds =
       let k = held m holds in
-      let done = told (kept_app left was.queue) (items.Write name (length left.entries)) in
+      let done = told (kept_app left was.queue was.observers) (items.Write name (length left.entries)) in
       let a = asks_done (store_key was.store.name) (asked plan) done (told was keeper_refusal) k.0 m k.2 in (
         k.0,
         k.1,
         a.0,
-        subst (λ (n : ℕ). Follows (writes_by as_kept name was plan) k.0 a.0 (told (kept_app left was.queue) (items.Write name n)) m) (sym h.1)
+        subst (λ (n : ℕ). Follows (writes_by as_kept name was plan) k.0 a.0 (told (kept_app left was.queue was.observers) (items.Write name n)) m) (sym h.1)
             (subst (λ (p : Result Plan WriteFault). Follows (writes_by as_kept name was p) k.0 a.0 done m) (sym h.0) a.1),
         subst (λ (n : ℕ). RoseBy n count count') (sym a.2) (rose_none count count' later),
       )
@@ -57,21 +57,21 @@ module _ (before now : Stores → Type 0) (count count' : ℕ) (name : List ℕ)
   -- a refusal that the plan gives
   refused : (left : SeenStore) (fault : WriteFault) → plan ≡ Err fault → left ≡ was.store → HoldsAsBefore before now → count ≤ count' → Ends left (write_refusal fault)
   refused left fault is same held later =
-      subst (λ (p : Result Plan WriteFault). Meets (writes_by as_kept name was p) before now count count' (told (kept_app left was.queue) (write_refusal fault))) (sym is)
-      (subst (λ (s : SeenStore). Meets (Done (told was (write_refusal fault))) before now count count' (told (kept_app s was.queue) (write_refusal fault))) (sym same)
+      subst (λ (p : Result Plan WriteFault). Meets (writes_by as_kept name was p) before now count count' (told (kept_app left was.queue was.observers) (write_refusal fault))) (sym is)
+      (subst (λ (s : SeenStore). Meets (Done (told was (write_refusal fault))) before now count count' (told (kept_app s was.queue was.observers) (write_refusal fault))) (sym same)
       (met_quietly before now count count' (told was (write_refusal fault)) held later))
 
   -- the keeper failed
   failed : (left : SeenStore) (p : Result Plan WriteFault) (batch : KeptBatch) → asked p ≡ Some batch → left ≡ was.store → HoldsAsBefore before now → Rose count count'
-      → Meets (writes_by as_kept name was p) before now count count' (told (kept_app left was.queue) keeper_refusal)
+      → Meets (writes_by as_kept name was p) before now count count' (told (kept_app left was.queue was.observers) keeper_refusal)
   failed left (Ok p) batch is same held rose m holds = (
       let k = held m holds in (
         k.0,
         k.1,
         false ∷ [],
-        subst (λ (s : SeenStore). Follows (writes_by as_kept name was (Ok p)) k.0 (false ∷ []) (told (kept_app s was.queue) keeper_refusal) m) (sym same)
-            (subst (λ (b : Option KeptBatch). Follows (asks (store_key was.store.name) b (told (kept_app p.after was.queue) (items.Write name (length p.after.entries))) (told was keeper_refusal)) k.0 (false ∷ []) (told was keeper_refusal) m) (sym is)
-            (asks_failed (store_key was.store.name) batch (told (kept_app p.after was.queue) (items.Write name (length p.after.entries))) (told was keeper_refusal) k.0 m k.2)),
+        subst (λ (s : SeenStore). Follows (writes_by as_kept name was (Ok p)) k.0 (false ∷ []) (told (kept_app s was.queue was.observers) keeper_refusal) m) (sym same)
+            (subst (λ (b : Option KeptBatch). Follows (asks (store_key was.store.name) b (told (kept_app p.after was.queue was.observers) (items.Write name (length p.after.entries))) (told was keeper_refusal)) k.0 (false ∷ []) (told was keeper_refusal) m) (sym is)
+            (asks_failed (store_key was.store.name) batch (told (kept_app p.after was.queue was.observers) (items.Write name (length p.after.entries))) (told was keeper_refusal) k.0 m k.2)),
         omega (arith, rose),
       ))
   failed left (Err e) batch is same held rose m holds = absurd (grind (arith, is))
@@ -98,7 +98,7 @@ module _ (before now : Stores → Type 0) (count count' : ℕ) (name : List ℕ)
   err_cause Memory apart cause is = absurd (apart refl)
 
   pub handled : {E : Type 0} (left : SeenStore) (said : List ℕ) (done : Result ℕ WriteFault) (result : Result Item E) → said ≡ name → IsWritten plan was.store left done → Held done → HasCauseOf KeeperFault count count' done → Tells said done result
-      → IsHandled (writes_by as_kept name was plan) (told (kept_app left was.queue)) is_of_keeper before now count count' was (kept_app left was.queue) result
+      → IsHandled (writes_by as_kept name was plan) (told (kept_app left was.queue was.observers)) is_of_keeper before now count count' was (kept_app left was.queue was.observers) result
   handled left said (Ok at) (Ok item) same h held cause is = record {
     met = subst (Ends left) (sym is) (subst (λ (n : List ℕ). Ends left (items.Write n at)) (sym same) (written left at h held cause.later));
     same = tt;
@@ -116,7 +116,7 @@ module _ (before now : Stores → Type 0) (count count' : ℕ) (name : List ℕ)
   }
   handled left said (Err fault) (Err e) same h held cause is = record {
     met = tt;
-    same = ap (λ (s : SeenStore). kept_app s was.queue) (err_same left fault h);
+    same = ap (λ (s : SeenStore). kept_app s was.queue was.observers) (err_same left fault h);
     held = held;
     later = cause.later;
     cause = tt;

@@ -1,5 +1,6 @@
 -- What a handler of a line answered and left.
-use Rattle.std.specs.Prelude.{◌≡◌, ◌≢◌, ◌≤◌, ℕ, List, Bool, true, Result, Ok, Err, IfOk, OnErr}
+use Rattle.std.specs.Prelude.{◌≡◌, ◌≢◌, ◌≤◌, ◌+◌, ◌⊎◌, ℕ, List, [], ◌∷◌, length, map, set, slice_get, Bool, true, false, Option, Some, None, option_and_then, Result, Ok, Err, IfOk, OnErr, if◌then◌else◌}
+use Rattle.std.specs.Borrow.{Bor}
 use Rattle.std.specs.List.{list_any}
 use Rattle.melon_outside.specs.Causes.{Rose}
 use Rattle.melon_outside.specs.Keeping.{Stores}
@@ -8,7 +9,26 @@ use Rattle.melon_board.specs.declared.fault.WriteFault.{WriteFault}
 use Rattle.melon_board.specs.declared.fault.WriteFault.TheVariants.{Memory}
 use Rattle.melon_script.specs.declared.item.Item.{Item}
 use Rattle.melon_script.specs.declared.item.Item.TheVariants as items
-use Rattle.melon_machine.specs.Calls.{Calls, Meets}
+use Rattle.melon_board.specs.Stores.{SeenStore}
+use Rattle.melon_schema.specs.declared.schema.TableSchema.{TableSchema}
+use Rattle.melon_views.specs.declared.parent.Parent.{Parent}
+use Rattle.melon_change.specs.History.{History}
+use Rattle.melon_query.specs.Simple.{is_simple}
+use Rattle.melon_schema.specs.Faults.{◌>>=◌}
+use Rattle.melon_raw.specs.Rows.{table_at}
+use Rattle.melon_relation.specs.declared.fault.RelationFault.{RelationFault}
+use Rattle.melon_relation.specs.declared.relation.Relation.{Relation}
+use Rattle.melon_relation.specs.Relations.{related, parent_in}
+use Rattle.melon_relation.specs.Watching.{Watched, watch_opened}
+use Rattle.melon_observe.specs.Journals.{changes_between}
+use Rattle.melon_script.specs.SeenLine as lines
+use Rattle.melon_script.specs.SeenLine.{SeenLine}
+use Rattle.melon_script.specs.declared.item.Given.{Given}
+use Rattle.melon_machine.specs.Legal.{IsLegalApp, IsKeptAs}
+use Rattle.melon_machine.specs.Showing.{given_parent}
+use Rattle.melon_machine.specs.State.{App, Observer, named, observed_by, history_of, Watch, kept_at, KeptWatch, Answers, Owns, KeptObserver, KeptApp, State, as_kept, observer_kept, app_kept}
+use Rattle.melon_machine.specs.Step.{Stepped, kept_calls, place_of, place_in, is_turn}
+use Rattle.melon_machine.specs.Calls.{Calls, Follows, failures, RoseBy, Meets}
 use Rattle.melon_machine.specs.Refusals.{is_of_keeper, write_refusal}
 
 -- A batch that was made is told with the journal's length; a refusal is told, unless memory runs out.
@@ -26,3 +46,96 @@ pub record IsHandled {X T R E : Type 0} (calls : Calls X) (end : R → X) (tells
   pub held : OnErr result (HoldsAsBefore before now)
   pub later : faults_before ≤ faults_now
   pub cause : IfOk result (λ answer. tells answer ≡ true → Rose faults_before faults_now)
+
+-- ---- a step
+
+-- The keeper held this, and every machine that the code had so makes calls over it that leave what it holds now and end so.
+abbrev pub MeetsAs : (State App → Calls (Stepped App)) → State KeptApp → (Stores → Type 0) → (Stores → Type 0) → ℕ → ℕ → Stepped KeptApp → Type 0
+MeetsAs calls was before now faults_before faults_now end =
+    (m : Stores) → now m → (kept : Stores) × before kept × ((machine : State App) → IsKeptAs machine was
+    → (used : List Bool) × Follows (kept_calls (calls machine)) kept used end m × RoseBy (failures used) faults_before faults_now)
+
+-- ---- watches
+
+-- a watch that was opened on a store, and what it shows
+abbrev pub shown_of : SeenStore → Relation → Watched × Given
+shown_of store r = (watch_opened (length store.entries) store.rows r, given_parent (table_at store.schema.tables r.to) (parent_in r store.rows))
+
+abbrev pub watch_shown : SeenStore → ℕ → List ℕ → ℕ → Result (Watched × Given) RelationFault
+watch_shown store table id to = related store.schema.tables store.rows table id to >>= λ r. Ok (shown_of store r)
+
+-- ---- turns
+
+-- the app and the observer of a turn, where the line is one
+abbrev pub IsTurn : SeenLine → Option (Bor (List ℕ) × Bor (List ℕ)) → Type 0
+IsTurn line None = is_turn line ≡ false
+IsTurn line (Some turn) = line ≡ lines.Turn turn.0.now turn.1.now
+
+-- the changes behind the position of an observer of a simple query
+abbrev pub watch_bound : SeenStore → KeptWatch → Option ℕ
+watch_bound store (Answers o) = if is_simple o.query then Some (changes_between o.at (length store.entries) store.entries) else None
+watch_bound store (Owns w) = None
+
+abbrev pub observer_bound : SeenStore → Option KeptObserver → Option ℕ
+observer_bound store None = None
+observer_bound store (Some o) = watch_bound store o.watch
+
+abbrev pub place_bound : KeptApp → Option ℕ → Option ℕ
+place_bound app None = None
+place_bound app (Some place) = observer_bound app.store (slice_get app.observers place)
+
+abbrev pub app_bound : List ℕ → Option KeptApp → Option ℕ
+app_bound observer None = None
+app_bound observer (Some app) = place_bound app (place_in observer (map (λ (o : KeptObserver). o.name) app.observers))
+
+abbrev pub apps_bound : List KeptApp → List ℕ → Option ℕ → Option ℕ
+apps_bound apps observer None = None
+apps_bound apps observer (Some place) = app_bound observer (slice_get apps place)
+
+-- how many steps a turn of an observer of a simple query takes at most
+abbrev pub turn_bound : List KeptApp → List ℕ → List ℕ → Option ℕ
+turn_bound apps name observer = apps_bound apps observer (place_of as_kept name apps)
+
+abbrev pub line_bound : List KeptApp → SeenLine → Option ℕ
+line_bound apps (lines.Turn name observer) = turn_bound apps name observer
+line_bound apps line = None
+
+-- at most so many steps, where there is a bound
+abbrev pub IsBounded : Option ℕ → ℕ → ℕ → Type 0
+IsBounded None before now = Unit {0}
+IsBounded (Some bound) before now = now ≤ before + bound
+
+-- ---- want of memory
+
+-- what is watched is kept as at some position of the history
+pub record StandsOn (h : History) (watch : Watch) (left : KeptWatch) : Type 0 where
+  pub at : ℕ
+  pub within : at ≤ length h.entries
+  pub is : left ≡ kept_at h at watch
+
+-- the observer stands at some position of the history
+pub record StandsAt (app : App) (o : Observer) (left : KeptObserver) : Type 0 where
+  pub at : ℕ
+  pub within : at ≤ length app.entries
+  pub is : left ≡ observer_kept (history_of app) (named o.name o.watch at)
+
+-- the app is as it was, or one of its observers has taken turns
+abbrev pub IsAppLeft : App → KeptApp → KeptApp → Type 0
+IsAppLeft a was left = (left ≡ was) ⊎ ((place at : ℕ) × (o : Observer) × (slice_get a.observers place ≡ Some o) × (at ≤ length a.entries) × (left ≡ app_kept (observed_by a (set a.observers place (named o.name o.watch at)))))
+
+-- This is how the code has a machine in which one observer has taken turns.
+pub record IsTurnedOn (m : State App) (left : State KeptApp) : Type 0 where
+  pub place : ℕ
+  pub app : App
+  pub observers : List Observer
+  pub there : slice_get m.apps place ≡ Some app
+  pub after : IsKeptAs (record { apps = set m.apps place (observed_by app observers) }) left
+
+-- as before, or with an observer that has taken turns
+abbrev pub IsLeft : State KeptApp → State KeptApp → Type 0
+IsLeft was left = (left ≡ was) ⊎ ((m : State App) → IsKeptAs m was → IsTurnedOn m left)
+
+-- what a watch's turn prints before the item that it is still
+abbrev pub changed_items : List TableSchema → List ℕ → List ℕ → ℕ → Option (ℕ × Parent) → Item → List Item
+changed_items tables app name to None still = still ∷ []
+changed_items tables app name to (Some changed) still = items.Emit app name changed.0 (given_parent (table_at tables to) changed.1) ∷ still ∷ []

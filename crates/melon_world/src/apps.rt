@@ -69,13 +69,14 @@ fn push_reserved(apps: &mut Vec<App>, app: App)
     }
 }
 
-/// An app whose queue nobody has entered.
+/// An app whose queue nobody has entered, without observers.
 fn just_opened(alloc: Global, store: Store) -> App
-    ensures { result ≡ kept_app store no_writers }
+    ensures { result ≡ kept_app store no_writers [] }
 {
     App {
         store,
         queue: Queue::new(alloc),
+        observers: Vec::new(alloc),
     }
 }
 

@@ -3,11 +3,18 @@
 
 pub mod app;
 pub mod apps;
+mod ids;
+pub mod observer;
+pub mod observing;
 pub mod queueing;
 pub mod reading;
 pub mod refusals;
+pub mod relating;
+mod shown;
+pub mod turning;
 pub mod world;
 pub mod writing;
 
 pub use app::App;
+pub use observer::{NamedObserver, Watching};
 pub use world::World;

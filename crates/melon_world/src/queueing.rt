@@ -10,23 +10,13 @@ ghost use Rattle.melon_machine.specs.Step.{on_app, queue_fault, write_fault, ent
 
 use crate::app::App;
 use crate::apps::place_of;
+use crate::ids::id_of;
 use crate::refusals::{app_refusal, queue_refusal, writer_refusal};
 use melon_queue::{Left, Queue, QueueFault};
-use melon_raw::{Id, IdFault};
+use melon_raw::Id;
 use melon_schema::{Text, Twin};
 use melon_script::Item;
 use std::alloc::{AllocError, Global};
-
-/// The writer of that name, where it has the form of an id.
-fn writer_of(alloc: Global, name: &Text) -> Result<Option<Id>, AllocError>
-    ensures { IfOk result (λ writer. writer ≡ (if is_id name.now then Some name.now else None)) }
-{
-    match Id::read(alloc, name.as_str()) {
-        Ok(writer) => Ok(Some(writer)),
-        Err(IdFault::Bad) => Ok(None),
-        Err(IdFault::Memory) => Err(AllocError),
-    }
-}
 
 fn copy_name(alloc: Global, name: Option<&Id>) -> Result<Option<Id>, AllocError>
     ensures { IfOk result (λ copy. copy ≡ option_copied name.entry) }
@@ -50,7 +40,7 @@ fn is_holder(queue: &Queue, writer: &Id) -> bool
 fn queue_fault(alloc: Global, queue: &Queue, writer: &Text) -> Result<Option<Item>, AllocError>
     ensures fault { IfOk result (λ fault. fault ≡ queue_fault writer.now queue.now) }
 {
-    match writer_of(alloc, writer)? {
+    match id_of(alloc, writer)? {
         Some(id) => {
             if is_holder(queue, &id) {
                 return Ok(None);
@@ -127,7 +117,7 @@ fn enter_app(app: &mut App, alloc: Global, name: &Text, writer: &Text) -> Result
     ensures quiet { IfOk result (λ item. is_of_keeper item ≡ false) }
     ensures same { OnErr result (app.new ≡ app.old) }
 {
-    match writer_of(alloc, writer)? {
+    match id_of(alloc, writer)? {
         Some(id) => enter_named(app, alloc, name, writer, id),
         None => writer_refusal(alloc, writer),
     }
@@ -162,7 +152,7 @@ fn nest_app(app: &mut App, alloc: Global, name: &Text, writer: &Text) -> Result<
     ensures quiet { IfOk result (λ item. is_of_keeper item ≡ false) }
     ensures same { OnErr result (app.new ≡ app.old) }
 {
-    match writer_of(alloc, writer)? {
+    match id_of(alloc, writer)? {
         Some(id) => nest_named(app, alloc, name, writer, id),
         None => writer_refusal(alloc, writer),
     }
@@ -217,7 +207,7 @@ fn leave_app(app: &mut App, alloc: Global, name: &Text, writer: &Text) -> Result
     ensures quiet { IfOk result (λ item. is_of_keeper item ≡ false) }
     ensures same { OnErr result (app.new ≡ app.old) }
 {
-    match writer_of(alloc, writer)? {
+    match id_of(alloc, writer)? {
         Some(id) => leave_named(app, alloc, name, writer, id),
         None => writer_refusal(alloc, writer),
     }

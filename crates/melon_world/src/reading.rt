@@ -4,7 +4,6 @@ ghost use Rattle.std.specs.Option.{option_copied};
 ghost use Rattle.serde_json.specs.View.{view};
 ghost use Rattle.melon_schema.specs.Places.{table_named};
 ghost use Rattle.melon_table.specs.Seen.{rows_of};
-ghost use Rattle.melon_query.specs.Fresh.{fresh};
 ghost use Rattle.melon_query.specs.Reading.{query_of};
 ghost use Rattle.melon_raw.specs.Encoding.{encoding};
 ghost use Rattle.melon_raw.specs.Rows.{table_at};
@@ -19,37 +18,15 @@ use crate::refusals::{app_refusal, query_refusal, table_refusal};
 use melon_board::Store;
 use melon_eval::run;
 use melon_query::{Query, QueryFault};
+use melon_raw::Steps;
 use melon_raw::steps::new_counter;
-use melon_raw::{Id, Steps};
 use melon_schema::{List, TableSchema, Text, Twin};
 use melon_script::Item;
-use melon_table::{Table, Tables};
+use melon_table::Table;
 use serde_json::Value;
 use std::alloc::{AllocError, Global};
 use std::marker::Brand;
 use std::sync::ledger::{Blank, Ledger};
-
-fn run_counted<L: Ledger>(
-    counter: Blank,
-    alloc: Global,
-    query: &Query,
-    tables: &Tables,
-) -> Result<List<Id>, AllocError>
-    requires name { counter.name ≡ L.name }
-    requires parts { counter.parts ≡ L.parts }
-    requires shared { 0 < counter.parts }
-    ensures { IfOk result (λ ids. ids ≡ fresh query.now (rows_of tables.now)) }
-{
-    let mut steps = Steps::<L>::open(counter);
-    run(alloc, query, tables, &mut steps)
-}
-
-/// The ids that a query answers, in their order.
-fn answer(alloc: Global, query: &Query, tables: &Tables) -> Result<List<Id>, AllocError>
-    ensures { IfOk result (λ ids. ids ≡ fresh query.now (rows_of tables.now)) }
-{
-    run_counted::<Brand>(new_counter(), alloc, query, tables)
-}
 
 fn encodings_counted<L: Ledger>(
     counter: Blank,
@@ -83,12 +60,13 @@ fn encodings(
 }
 
 /// The answer to a query over a declared table, or why it is none.
-fn answered(
+fn answered<L: Ledger>(
     store: &Store,
     alloc: Global,
     app: &Text,
     table: &Text,
     json: &Value,
+    steps: &mut Steps<L>,
 ) -> Result<Item, AllocError>
     ensures item { IfOk result (λ item. item ≡ answered app.now store.now (query_of store.now.schema.tables table.now (view json.now))) }
     ensures quiet { IfOk result (λ item. is_of_keeper item ≡ false) }
@@ -96,26 +74,27 @@ fn answered(
     match Query::read(alloc, json, store.schema(), table.as_str()) {
         Ok(query) => Ok(Item::Fetch {
             app: app.copy(alloc)?,
-            ids: answer(alloc, &query, store.board().tables())?,
+            ids: run(alloc, &query, store.board().tables(), steps)?,
         }),
         Err(QueryFault::Memory) => Err(AllocError),
         Err(fault) => Ok(query_refusal(alloc, fault)),
     }
 }
 
-fn fetched(
+fn fetched<L: Ledger>(
     opened: &App,
     alloc: Global,
     app: &Text,
     table: &Text,
     json: &Value,
+    steps: &mut Steps<L>,
 ) -> Result<Item, AllocError>
     ensures item { IfOk result (λ item. item ≡ fetched app.now table.now (view json.now) opened.now.store) }
     ensures quiet { IfOk result (λ item. is_of_keeper item ≡ false) }
 {
     let store = &opened.store;
     match store.schema().table(table.as_str()) {
-        Some(_) => answered(store, alloc, app, table, json),
+        Some(_) => answered(store, alloc, app, table, json, steps),
         None => table_refusal(alloc, table),
     }
 }
@@ -139,18 +118,19 @@ fn rows_shown(opened: &App, alloc: Global, app: &Text, table: &Text) -> Result<I
 }
 
 /// The answer to a query: the ids of records, in their order.
-pub fn fetch(
+pub fn fetch<L: Ledger>(
     apps: &[App],
     alloc: Global,
     app: &Text,
     table: &Text,
     query: &Value,
+    steps: &mut Steps<L>,
 ) -> Result<Item, AllocError>
     ensures item { IfOk result (λ item. on_app as_kept apps.now app.now (looks as_kept (fetched app.now table.now (view query.now))) ≡ Done (stepped apps.now item)) }
     ensures quiet { IfOk result (λ item. is_of_keeper item ≡ false) }
 {
     match place_of(apps, app.as_str()) {
-        Some(place) => fetched(&apps[place], alloc, app, table, query),
+        Some(place) => fetched(&apps[place], alloc, app, table, query, steps),
         None => app_refusal(alloc, 2, app),
     }
 }

@@ -1,6 +1,6 @@
 //! The printed refusals, made of faults. Want of memory is never printed.
 ghost use Rattle.std.specs.Prelude.{◌≡◌, ◌≢◌, ◌∷◌, [], IfOk, false};
-ghost use Rattle.melon_machine.specs.Refusals.{refused, app_refusal, schema_refusal, query_refusal, writer_refusal, holder_detail, queue_refusal, is_of_keeper, table_refusal, keeper_refusal, open_refusal, ops_refusal, record_refusal, column_refusal, batch_refusal, write_refusal};
+ghost use Rattle.melon_machine.specs.Refusals.{refused, app_refusal, schema_refusal, query_refusal, writer_refusal, holder_detail, queue_refusal, is_of_keeper, table_refusal, keeper_refusal, shape_refusal, observer_refusal, relation_refusal, id_refusal, open_refusal, ops_refusal, record_refusal, column_refusal, batch_refusal, write_refusal};
 
 use melon_board::WriteFault;
 use melon_change::{BatchFault, OpsFault};
@@ -8,6 +8,7 @@ use melon_outside::OpenFault;
 use melon_query::QueryFault;
 use melon_queue::QueueFault;
 use melon_raw::Id;
+use melon_relation::RelationFault;
 use melon_schema::{List, SchemaFault, Text, Twin};
 use melon_script::{Detail, Group, Item};
 use std::alloc::{AllocError, Global};
@@ -56,6 +57,37 @@ pub fn query_refusal(alloc: Global, fault: QueryFault) -> Item
     ensures { result ≡ query_refusal fault }
 {
     refused(Group::Query, fault.number(), List::new(alloc))
+}
+
+/// A column of a shape that the table doesn't have.
+pub fn shape_refusal(alloc: Global) -> Item
+    ensures { result ≡ shape_refusal }
+{
+    refused(Group::Query, 3, List::new(alloc))
+}
+
+/// 1 a taken name, 2 no such observer, 3 sixty-four are open, 4 a bad name.
+pub fn observer_refusal(alloc: Global, number: u64, observer: &Text) -> Result<Item, AllocError>
+    ensures item { IfOk result (λ item. item ≡ observer_refusal number observer.now) }
+    ensures quiet { IfOk result (λ item. is_of_keeper item ≡ false) }
+{
+    let mut details = List::new(alloc);
+    details.push(Detail::Words(observer.copy(alloc)?))?;
+    Ok(refused(Group::Observer, number, details))
+}
+
+/// 1 no visible row, 2 no association.
+pub fn relation_refusal(alloc: Global, fault: RelationFault) -> Item
+    ensures { result ≡ relation_refusal fault }
+{
+    refused(Group::Relation, fault.number(), List::new(alloc))
+}
+
+/// An id outside the form of ids.
+pub fn id_refusal(alloc: Global) -> Item
+    ensures { result ≡ id_refusal }
+{
+    refused(Group::Relation, 1, List::new(alloc))
 }
 
 fn numbered(alloc: Global, group: Group, number: u64, detail: u64) -> Result<Item, AllocError>

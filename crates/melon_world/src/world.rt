@@ -1,20 +1,28 @@
-ghost use Rattle.std.specs.Prelude.{◌≡◌, ◌∷◌, [], ℕ, true};
+ghost use Rattle.std.specs.Prelude.{◌≡◌, ◌≤◌, [], ℕ, true, false, IfOk, OnErr};
 ghost use Rattle.std.specs.List.{list_any};
+ghost use Rattle.melon_outside.specs.Causes.{Rose};
+ghost use Rattle.melon_board.specs.Carried.{HoldsAsBefore};
 ghost use Rattle.melon_script.specs.Seen.{seen};
 ghost use Rattle.melon_machine.specs.Refusals.{is_of_keeper};
-ghost use Rattle.melon_machine.specs.State.{as_kept, none_open};
-ghost use Rattle.melon_machine.specs.Step.{step, stepped, ends_with};
-ghost use Rattle.melon_world.specs.Handled.{IsHandled};
+ghost use Rattle.melon_machine.specs.State.{none_open};
+ghost use Rattle.melon_machine.specs.Step.{step, plain_step, is_turn, stepped, ends_with};
+ghost use Rattle.melon_world.specs.Handled.{IsHandled, MeetsAs, IsTurn, IsBounded, line_bound, IsLeft};
 
 use crate::app::App;
 use crate::apps::{close, open};
+use crate::observing::{drop_observer, observe, watch};
 use crate::queueing::{enter, leave, nest};
 use crate::reading::{fetch, rows};
+use crate::relating::{children, parent};
+use crate::turning::turn;
 use crate::writing::write;
 use melon_outside::Keeper;
+use melon_raw::Steps;
+use melon_schema::Text;
 use melon_script::{Answer, Item, Line};
 use std::alloc::{AllocError, Global};
 use std::marker::Model;
+use std::sync::ledger::Ledger;
 
 /// The machine: the open apps.
 #[derive(Drop)]
@@ -23,24 +31,52 @@ pub struct World {
 }
 
 impl Model for World {
+    ghost use Rattle.std.specs.Coded.{codes};
+    ghost use Rattle.melon_query.specs.contracts.query.Cond as cond;
     ghost use Rattle.melon_machine.specs.State.{KeptApp, State};
 
     ghost Value = { State KeptApp };
+
+    ghost coded = { Prim.hlevel (codes, cond.the_row.coded) };
 
     ghost use Rattle.melon_world.specs.Inside.{world_in};
 
     ghost view = { world_in };
 }
 
-/// The item that a line prints.
-#[tactic(auto, using(crate::proofs::Meeting::handled_quietly), unfolding(melon_machine::specs::Step::step))]
-fn take<K: Keeper>(
+/// The app and the observer of a turn, where the line is one.
+fn turn_of(line: &Line) -> Option<(&Text, &Text)>
+    ensures { IsTurn (seen line.now) result }
+{
+    match line {
+        Line::Turn { app, name } => Some((app, name)),
+        Line::Open { .. } => None,
+        Line::Close { .. } => None,
+        Line::Enter { .. } => None,
+        Line::Nest { .. } => None,
+        Line::Leave { .. } => None,
+        Line::Write { .. } => None,
+        Line::Fetch { .. } => None,
+        Line::Rows { .. } => None,
+        Line::Observe { .. } => None,
+        Line::Watch { .. } => None,
+        Line::Drop { .. } => None,
+        Line::Parent { .. } => None,
+        Line::Children { .. } => None,
+    }
+}
+
+/// The item that a line prints which isn't a turn.
+#[tactic(auto, using(crate::proofs::Meeting::handled_quietly), unfolding(melon_machine::specs::Step::plain_step))]
+fn take<K: Keeper, N: Ledger>(
     apps: &mut Vec<App>,
     alloc: Global,
     keeper: &mut K,
     line: &Line,
+    steps: &mut Steps<N>,
 ) -> Result<Item, AllocError>
-    ensures { IsHandled (step as_kept (record { apps = apps.old.items }) (seen line.now)) (stepped apps.new.items) is_of_keeper (K.holds keeper.old) (K.holds keeper.new) (K.faults keeper.old) (K.faults keeper.new) apps.old.items apps.new.items result }
+    requires { is_turn (seen line.now) ≡ false }
+    ensures { IsHandled (plain_step apps.old.items (seen line.now)) (stepped apps.new.items) is_of_keeper (K.holds keeper.old) (K.holds keeper.new) (K.faults keeper.old) (K.faults keeper.new) apps.old.items apps.new.items result }
 {
     match line {
         Line::Open { app, schema } => open(apps, alloc, keeper, app, schema),
@@ -49,8 +85,32 @@ fn take<K: Keeper>(
         Line::Nest { app, writer } => nest(apps, alloc, app, writer),
         Line::Leave { app, writer } => leave(apps, alloc, app, writer),
         Line::Write { app, ops, writer } => write(apps, alloc, keeper, app, ops, writer),
-        Line::Fetch { app, table, query } => fetch(apps.as_slice(), alloc, app, table, query),
+        Line::Fetch { app, table, query } => {
+            fetch(apps.as_slice(), alloc, app, table, query, steps)
+        }
         Line::Rows { app, table } => rows(apps.as_slice(), alloc, app, table),
+        Line::Observe {
+            app,
+            name,
+            table,
+            query,
+            shape,
+        } => observe(apps, alloc, app, name, table, query, shape),
+        Line::Watch {
+            app,
+            name,
+            table,
+            id,
+            to,
+        } => watch(apps, alloc, app, name, table, id, to),
+        Line::Turn { .. } => unreachable!(),
+        Line::Drop { app, name } => drop_observer(apps, alloc, app, name),
+        Line::Parent { app, table, id, to } => {
+            parent(apps.as_slice(), alloc, app, table, id, to)
+        }
+        Line::Children { app, table, id, to } => {
+            children(apps.as_slice(), alloc, app, table, id, to, steps)
+        }
     }
 }
 
@@ -64,17 +124,29 @@ impl World {
         }
     }
 
-    /// One step of the machine. Memory, which may run out, is taken before the keeper commits.
-    pub fn step<K: Keeper>(
+    /// One step of the machine. All memory but that of a turn is taken before anything is done; turns that were taken stay
+    /// taken. A turn of an observer of a simple query takes at most one step for each change behind its position.
+    pub fn step<K: Keeper, N: Ledger>(
         &mut self,
         alloc: Global,
         keeper: &mut K,
         line: &Line,
+        steps: &mut Steps<N>,
     ) -> Result<Answer, AllocError>
-        ensures { IsHandled (step as_kept self.old (seen line.now)) (ends_with self.new) (list_any is_of_keeper) (K.holds keeper.old) (K.holds keeper.new) (K.faults keeper.old) (K.faults keeper.new) self.old self.new result }
+        ensures met { IfOk result (λ items. MeetsAs (λ m. step m (seen line.now)) self.old (K.holds keeper.old) (K.holds keeper.new) (K.faults keeper.old) (K.faults keeper.new) (ends_with self.new items)) }
+        ensures left { OnErr result (IsLeft self.old self.new) }
+        ensures held { OnErr result (HoldsAsBefore (K.holds keeper.old) (K.holds keeper.new)) }
+        ensures later { K.faults keeper.old ≤ K.faults keeper.new }
+        ensures cause { IfOk result (λ items. list_any is_of_keeper items ≡ true → Rose (K.faults keeper.old) (K.faults keeper.new)) }
+        ensures cost { IfOk result (λ _. IsBounded (line_bound self.old.apps (seen line.now)) steps.old steps.new) }
     {
-        let answer = Answer::new(alloc)?;
-        let item = take(&mut self.apps, alloc, keeper, line)?;
-        Ok(answer.with_first(item))
+        match turn_of(line) {
+            Some((app, name)) => turn(&mut self.apps, alloc, app, name, steps),
+            None => {
+                let answer = Answer::new(alloc)?;
+                let item = take(&mut self.apps, alloc, keeper, line, steps)?;
+                Ok(answer.with_first(item))
+            }
+        }
     }
 }

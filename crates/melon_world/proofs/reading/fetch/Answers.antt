@@ -8,7 +8,7 @@ use Rattle.melon_world.proofs.Meeting.{app_found, put_same}
 use Rattle.melon_world.proofs.reading.fetch.Goals as goal
 
 pub returns-in-Some-clause-item : goal.returns-in-Some-clause-item
-returns-in-Some-clause-item c =
+returns-in-Some-clause-item g c =
     let apps = c.args.apps.now in
     let store = c.index-apps-place.result in
     IfOk-weaker c.fetched.result _ _ (λ item is.

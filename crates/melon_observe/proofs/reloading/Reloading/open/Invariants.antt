@@ -1,0 +1,4 @@
+use Rattle.melon_observe.proofs.reloading.Reloading.open.Given as goal
+
+abbrev pub ghosts-shown_counted : goal.ghosts-shown_counted
+ghosts-shown_counted a = record { name = a.counter.name; parts = a.counter.parts }

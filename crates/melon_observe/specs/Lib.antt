@@ -1,0 +1,5 @@
+pub mod Members
+pub mod Patches
+pub mod Held
+pub mod Inside
+pub mod Journals

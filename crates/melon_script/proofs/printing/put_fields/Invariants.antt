@@ -1,0 +1,8 @@
+use Rattle.std.proofs.Common.{◌≡◌, drop}
+use Rattle.serde_json.specs.View.{members_view}
+use Rattle.melon_script.specs.Printed.{with_fields}
+use Rattle.melon_script.proofs.printing.put_fields.Given as goal
+
+-- the fields that are left complete the members
+abbrev pub invariant-loop-field : goal.invariant-loop-field
+invariant-loop-field l = with_fields (drop l.field-index l.fields) (members_view l.members.entries) ≡ with_fields l.fields (members_view l.fn.members.entries)

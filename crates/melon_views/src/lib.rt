@@ -1,0 +1,10 @@
+//! What observers show of an app's rows, when an emission is due, and the parent of a row: definitions, and laws about
+//! them.
+#![tactic(auto)]
+
+pub mod emission;
+pub mod laws;
+pub mod parent;
+
+pub use emission::{Emission, Shape, Shown, Turn};
+pub use parent::Parent;

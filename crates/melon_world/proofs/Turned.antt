@@ -1,0 +1,152 @@
+-- An app in which an observer takes its turns.
+use Rattle.std.proofs.Common.{◌≡◌, ℕ, zero, suc, ◌+◌, ◌≤◌, List, [], ◌∷◌, map, length, get_or, set, Bool, true, false, position, bytes_eq, ◌⊎◌, inl, inr, refl, sym, ap, ◌∙◌, subst, arith}
+use Rattle.std.specs.Prelude.{Option, Some, None, option_map, slice_get, if◌then◌else◌}
+use Rattle.std.specs.List.{AllByRecursion}
+use Rattle.std.proofs.lemmas.List.{map-set}
+use Rattle.std.proofs.lemmas.Option.{slice_get-map}
+use Rattle.melon_schema.specs.Names.{is_id}
+use Rattle.melon_board.specs.Stores.{SeenStore}
+use Rattle.melon_script.specs.SeenLine as lines
+use Rattle.melon_script.specs.declared.item.Item.{Item}
+use Rattle.melon_machine.specs.Calls.{Calls, Done}
+use Rattle.melon_machine.specs.Legal.{IsLegalApp, AreLegal, IsKeptAs}
+use Rattle.melon_machine.specs.Refusals.{app_refusal, observer_refusal}
+use Rattle.melon_machine.specs.Showing.{turn_items}
+use Rattle.melon_machine.specs.State.{App, Observer, named, observed_by, history_of, store_of, KeptObserver, KeptApp, kept_app, observer_kept, app_kept, with_history, as_kept, State, kept_of}
+use Rattle.melon_machine.specs.Step.{Stepped, stepped, Told, told, put_back, place_of, on_found, on_place, ends_with, place_in, turned, turns_of, turns_at, turn_app, step, kept_told, kept_step, kept_calls}
+use Rattle.melon_machine.proofs.Legality.{legal_set, observed_legal, within_set}
+use Rattle.melon_machine.proofs.Simulated.{stores, names_same, place_same, legal_at}
+use Rattle.melon_world.specs.Handled.{watch_bound, observer_bound, place_bound, app_bound, apps_bound, turn_bound, IsAppLeft, IsTurnedOn, StandsAt}
+use Rattle.melon_world.proofs.Meeting.{slice_get_or}
+use Rattle.melon_world.proofs.Places.{named_place}
+use Rattle.std.proofs.lemmas.List.Quantifiers.{position-Some}
+
+some_is : {X : Type 0} {x y : X} → Some x ≡ Some y → x ≡ y
+some_is e = grind (arith, e)
+
+-- the observer at a place stands within the history
+within_at : (n : ℕ) (observers : List Observer) (place : ℕ) (o : Observer) → slice_get observers place ≡ Some o → AllByRecursion (λ (o : Observer). o.at ≤ n) observers → o.at ≤ n
+within_at n [] place o here h = absurd (grind (arith, here))
+within_at n (p ∷ observers) zero o here h = subst (λ (q : Observer). q.at ≤ n) (some_is here) h.0
+within_at n (p ∷ observers) (suc place) o here h = within_at n observers place o here h.1
+
+-- what stands at a place of a mapped list
+mapped_at : {A B : Type 0} (f : A → B) (xs : List A) (place : ℕ) (y : B) → slice_get (map f xs) place ≡ Some y → (x : A) × (slice_get xs place ≡ Some x) × (f x ≡ y)
+mapped_at {A} {B} f xs place y h = by (slice_get xs place) refl (sym (slice_get-map f xs place) ∙ h)
+  where
+    by : (found : Option A) → slice_get xs place ≡ found → option_map f found ≡ Some y → (x : A) × (slice_get xs place ≡ Some x) × (f x ≡ y)
+    by None e m = absurd (grind (arith, m))
+    by (Some x) e m = (x, e, some_is m)
+
+-- ---- one app
+
+module _ (a : App) (app : KeptApp) (same : app_kept a ≡ app) (observer : List ℕ) where
+  names_are : map (λ (o : Observer). o.name) a.observers ≡ map (λ (o : KeptObserver). o.name) app.observers
+  names_are = sym (names_same (history_of a) a.observers) ∙ ap (λ (w : KeptApp). map (λ (o : KeptObserver). o.name) w.observers) same
+
+  -- no observer has the name
+  pub none_told : (name : List ℕ) → is_id observer ≡ true → None ≡ place_in observer (map (λ (o : KeptObserver). o.name) app.observers) → kept_told (turn_app name observer a) ≡ told app (observer_refusal 2 observer)
+  none_told name good none =
+      ap (λ b. kept_told (if b then turns_at name observer a (place_in observer (map (λ (o : Observer). o.name) a.observers)) else told a (observer_refusal 4 observer))) good
+      ∙ ap (λ p. kept_told (turns_at name observer a p)) (ap (place_in observer) names_are ∙ sym none)
+      ∙ ap (λ (w : KeptApp). told w (observer_refusal 2 observer)) same
+
+  pub bad_told : (name : List ℕ) → is_id observer ≡ false → kept_told (turn_app name observer a) ≡ told app (observer_refusal 4 observer)
+  bad_told name bad =
+      ap (λ b. kept_told (if b then turns_at name observer a (place_in observer (map (λ (o : Observer). o.name) a.observers)) else told a (observer_refusal 4 observer))) bad
+      ∙ ap (λ (w : KeptApp). told w (observer_refusal 4 observer)) same
+
+module _ (app : KeptApp) (observer : List ℕ) (place : ℕ) (k : KeptObserver) (at : Some place ≡ place_in observer (map (λ (o : KeptObserver). o.name) app.observers)) (here : k ≡ get_or app.observers place k) where
+  pub there : slice_get app.observers place ≡ Some k
+  there = slice_get_or app.observers place k (position-Some (λ (o : KeptObserver). bytes_eq o.name observer) app.observers place k (named_place observer app.observers ∙ sym at)).0 ∙ ap Some (sym here)
+
+  pub bound_is : app_bound observer (Some app) ≡ watch_bound app.store k.watch
+  bound_is = ap (place_bound app) (sym at) ∙ ap (observer_bound app.store) there
+
+  module _ (a : App) (same : app_kept a ≡ app) (legal : IsLegalApp a) where
+    pub found : (o : Observer) × (slice_get a.observers place ≡ Some o) × (observer_kept (history_of a) o ≡ k)
+    found = mapped_at (observer_kept (history_of a)) a.observers place k (ap (λ (w : KeptApp). slice_get w.observers place) same ∙ there)
+
+    pub within : found.0.at ≤ length a.entries
+    within = within_at (length a.entries) a.observers place found.0 found.1 legal.within
+
+    -- another observer in its place
+    pub kept_set : (o : Observer) (left : KeptObserver) → left ≡ observer_kept (history_of a) o → app_kept (observed_by a (set a.observers place o)) ≡ kept_app app.store app.queue (set app.observers place left)
+    kept_set o left is =
+        (λ i. kept_app (store_of a) a.queue (map-set (observer_kept (history_of a)) a.observers place o i))
+        ∙ (λ i. kept_app (same i).store (same i).queue (set (same i).observers place (sym is i)))
+
+    pub turns_told : (name : List ℕ) (left : KeptObserver) (items : List Item) → is_id observer ≡ true → left ≡ observer_kept (history_of a) (turned a found.0)
+        → items ≡ turn_items a.schema.tables name found.0.name (history_of a) found.0.at found.0.watch
+        → kept_told (turn_app name observer a) ≡ record { app = kept_app app.store app.queue (set app.observers place left); items = items }
+    turns_told name left items good is shown =
+        ap (λ b. kept_told (if b then turns_at name observer a (place_in observer (map (λ (o : Observer). o.name) a.observers)) else told a (observer_refusal 4 observer))) good
+        ∙ ap (λ p. kept_told (turns_at name observer a p)) (ap (place_in observer) (names_are a app same observer) ∙ sym at)
+        ∙ ap (λ f. kept_told (turns_of name a place f observer)) found.1
+        ∙ (λ i. record { app = kept_set (turned a found.0) left is i; items = sym shown i })
+
+    pub left_turned : (left : KeptObserver) → StandsAt a found.0 left → IsAppLeft a app (kept_app app.store app.queue (set app.observers place left))
+    left_turned left s = inr (place, s.at, found.0, found.1, s.within, sym (kept_set (named found.0.name found.0.watch s.at) left s.is))
+
+-- ---- all apps
+
+module _ (apps : List KeptApp) (name : List ℕ) (place : ℕ) (k : KeptApp) (at : Some place ≡ place_of as_kept name apps) (here : k ≡ get_or apps place k) where
+  app_there : slice_get apps place ≡ Some k
+  app_there = slice_get_or apps place k (position-Some (λ (s : KeptApp). bytes_eq s.store.name name) apps place k (sym at)).0 ∙ ap Some (sym here)
+
+  pub line_bound_is : (observer : List ℕ) → turn_bound apps name observer ≡ app_bound observer (Some k)
+  line_bound_is observer = ap (apps_bound apps observer) (sym at) ∙ ap (app_bound observer) app_there
+
+  module _ (m : State App) (h : IsKeptAs m (record { apps = apps })) where
+    pub app_found : (a : App) × (slice_get m.apps place ≡ Some a) × (app_kept a ≡ k)
+    app_found = mapped_at app_kept m.apps place k (ap (λ (w : State KeptApp). slice_get w.apps place) h.same ∙ app_there)
+
+    pub found_legal : IsLegalApp app_found.0
+    found_legal = legal_at m.apps place app_found.0 app_found.1 h.legal
+
+    place_is : place_of with_history name m.apps ≡ Some place
+    place_is = sym (place_same name m.apps) ∙ ap (λ (w : State KeptApp). place_of as_kept name w.apps) h.same ∙ sym at
+
+    set_is : (b : App) (left : KeptApp) → app_kept b ≡ left → stores (set m.apps place b) ≡ set apps place left
+    set_is b left is = map-set app_kept m.apps place b ∙ (λ i. set (h.same i).apps place (is i))
+
+    pub turn_called : (observer : List ℕ) (left : KeptApp) (items : List Item) → kept_told (turn_app name observer app_found.0) ≡ record { app = left; items = items }
+        → kept_calls (step m (lines.Turn name observer)) ≡ Done (ends_with (record { apps = set apps place left }) items)
+    unfolding step
+    turn_called observer left items is =
+        ap (λ p. kept_calls (on_place with_history m.apps name (λ app. Done (turn_app name observer app)) p)) place_is
+        ∙ ap (λ f. kept_calls (on_found with_history m.apps name (λ app. Done (turn_app name observer app)) place f)) app_found.1
+        ∙ (λ i. Done (record { after = record { apps = set_is (turn_app name observer app_found.0).app left (ap (λ (t : Told KeptApp). t.app) is) i }; items = ap (λ (t : Told KeptApp). t.items) is i }))
+
+    pub left_on : (left : KeptApp) → IsAppLeft app_found.0 k left → IsTurnedOn m (record { apps = set apps place left })
+    left_on left (inl unchanged) = record {
+      place = place;
+      app = app_found.0;
+      observers = app_found.0.observers;
+      there = app_found.1;
+      after = record {
+        same = λ i. record { apps = set_is app_found.0 left (app_found.2 ∙ sym unchanged) i };
+        legal = legal_set m.apps place app_found.0 h.legal found_legal;
+      };
+    }
+    left_on left (inr moved) =
+        let a = app_found.0 in
+        let observers = set a.observers moved.0 (named moved.2.name moved.2.watch moved.1) in
+        record {
+          place = place;
+          app = a;
+          observers = observers;
+          there = app_found.1;
+          after = record {
+            same = λ i. record { apps = set_is (observed_by a observers) left (sym moved.5) i };
+            legal = legal_set m.apps place (observed_by a observers) h.legal (observed_legal a found_legal observers (within_set a found_legal a.observers moved.0 (named moved.2.name moved.2.watch moved.1) moved.4 found_legal.within));
+          };
+        }
+
+-- no app of that name is open
+pub turn_missing : (apps : List KeptApp) (name observer : List ℕ) (m : State App) → IsKeptAs m (record { apps = apps }) → None ≡ place_of as_kept name apps
+    → kept_calls (step m (lines.Turn name observer)) ≡ Done (stepped apps (app_refusal 2 name))
+unfolding step
+turn_missing apps name observer m h none =
+    ap (λ p. kept_calls (on_place with_history m.apps name (λ app. Done (turn_app name observer app)) p)) (sym (place_same name m.apps) ∙ ap (λ (w : State KeptApp). place_of as_kept name w.apps) h.same ∙ sym none)
+    ∙ ap (λ (w : State KeptApp). Done (stepped w.apps (app_refusal 2 name))) h.same

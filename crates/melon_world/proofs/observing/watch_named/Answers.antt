@@ -1,0 +1,18 @@
+use Rattle.std.proofs.Common.{◌≡◌, ◌∙◌, map, ap}
+use Rattle.std.proofs.lemmas.Result.{IfOk-weaker}
+use Rattle.serde_json.specs.View.{view}
+use Rattle.melon_query.specs.Reading.{query_of}
+use Rattle.melon_machine.specs.State.{KeptObserver, as_kept}
+use Rattle.melon_machine.specs.Step.{told, taken_fault, with_table, observes, watches_id}
+use Rattle.melon_world.proofs.Places.{refused_named, opened_named}
+use Rattle.melon_world.proofs.observing.watch_named.Goals as goal
+
+pub returns-in-Some-clause-item : goal.returns-in-Some-clause-item
+returns-in-Some-clause-item c =
+    let fault = c.in-Some.ensures ∙ (λ i. taken_fault (c.as_str.ensures i) (map (λ (o : KeptObserver). o.name) (c.as_slice.ensures.value i))) ∙ (λ i. taken_fault c.args.observer.now (as_kept.observers (c.app.view_is i))) in
+    IfOk-weaker c.observer_refusal.result _ _ (λ item is. ap (told c.args.app.now) is ∙ refused_named c.args.observer.now c.args.app.now c.in-Some.number _ (with_table as_kept c.args.table.now c.args.app.now (λ t. with_table as_kept c.args.to.now c.args.app.now (λ u. watches_id as_kept c.args.name.now c.args.observer.now c.args.app.now t c.args.id.now u))) fault) c.observer_refusal.ensures.item
+
+pub returns-in-None-clause-item : goal.returns-in-None-clause-item
+returns-in-None-clause-item c =
+    let fault = c.in-None.ensures ∙ (λ i. taken_fault (c.as_str.ensures i) (map (λ (o : KeptObserver). o.name) (c.as_slice.ensures.value i))) ∙ (λ i. taken_fault c.args.observer.now (as_kept.observers (c.app.view_is i))) in
+    IfOk-weaker c.watch_tables.result _ _ (λ item is. is ∙ (λ i. with_table as_kept c.args.table.now c.args.app.now (λ t. with_table as_kept c.args.to.now c.args.app.now (λ u. watches_id as_kept c.args.name.now (c.requires i) c.args.app.now t c.args.id.now u))) ∙ opened_named c.args.observer.now c.args.app.now _ (with_table as_kept c.args.table.now c.args.app.now (λ t. with_table as_kept c.args.to.now c.args.app.now (λ u. watches_id as_kept c.args.name.now c.args.observer.now c.args.app.now t c.args.id.now u))) fault) c.watch_tables.ensures.item

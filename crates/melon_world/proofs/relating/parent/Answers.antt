@@ -1,0 +1,16 @@
+use Rattle.std.proofs.Common.{◌≡◌, ◌∙◌, refl, sym}
+use Rattle.std.proofs.lemmas.Result.{IfOk-weaker}
+use Rattle.melon_machine.specs.Calls.{Done}
+use Rattle.melon_machine.specs.State.{as_kept}
+use Rattle.melon_machine.specs.Step.{told, put_back, stepped, place_of, looks, parent_shown}
+use Rattle.melon_world.proofs.Meeting.{app_found, put_same}
+use Rattle.melon_world.proofs.relating.parent.Goals as goal
+
+pub returns-in-Some-clause-item : goal.returns-in-Some-clause-item
+returns-in-Some-clause-item c =
+    let apps = c.args.apps.now in
+    let store = c.index-apps-place.result in
+    IfOk-weaker c.parent_shown.result _ _ (λ item is.
+    app_found apps c.args.app.now (looks as_kept (parent_shown c.args.app.now c.args.table.now c.args.id.now c.args.to.now)) c.in-Some.place store
+    (c.in-Some.ensures ∙ (λ i. place_of as_kept (c.as_str.ensures i) apps)) c.index-apps-place.is
+    ∙ (λ i. Done (stepped (put_same apps c.in-Some.place store store c.index-apps-place.is refl i) (sym is i)))) c.parent_shown.ensures.item
