@@ -1,0 +1,9 @@
+pub mod Resolving
+pub mod Seen
+pub mod Tellings
+pub mod Told
+pub mod Fitted
+pub mod Fated
+pub mod Applied
+pub mod Refused
+pub mod Placed

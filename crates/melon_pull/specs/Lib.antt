@@ -1,0 +1,3 @@
+pub mod Incoming
+pub mod Listing
+pub mod Laws

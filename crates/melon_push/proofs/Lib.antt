@@ -1,0 +1,10 @@
+pub mod Lists
+pub mod Growing
+pub mod Collected
+pub mod Tabled
+pub mod Named
+pub mod Parted
+pub mod Sent
+pub mod Gathered
+pub mod Settled
+pub mod Placed
