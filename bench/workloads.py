@@ -7,6 +7,10 @@ small-writes   as many single creates with ascending ids as a script of 16 MiB h
 big-batches    batches of 100000 creates with ascending ids, as many as fit
 mixed-writes   single creates with ids in no order, each followed by an update and now and then a deletion
 queries        20000 posts and 40000 comments, and then fetches with conditions, sort and take, and joins both ways
+observers      32 observers on 40000 posts, and single updates with a turn of each observer now and then
+watches        32 watches on the posts of comments, among 20000 posts, with a turn of each after single updates
+
+A number behind the name, 1, 4 or 16, is the part of the work in sixteenths; 16 is all of it.
 """
 import json
 import sys
@@ -36,25 +40,26 @@ def create(i):
     return {"create": "posts", "id": "g%07d" % i, "set": {"title": "t%d" % (i % 100), "score": i % 100}}
 
 
-def small_writes():
+def small_writes(part):
     i = 0
     while True:
         yield line({"do": "write", "app": "A", "ops": [create(i)]})
         i += 1
 
 
-def big_batches():
+def big_batches(part):
     first = 0
+    many = 6250 * part
     while True:
-        yield line({"do": "write", "app": "A", "ops": [create(first + i) for i in range(100000)]})
-        first += 100000
+        yield line({"do": "write", "app": "A", "ops": [create(first + i) for i in range(many)]})
+        first += many
 
 
 def write(operation):
     return line({"do": "write", "app": "A", "ops": [operation]})
 
 
-def mixed_writes():
+def mixed_writes(part):
     i = 0
     while True:
         post = "m%07d" % (i * 7919 % 1000003)
@@ -74,9 +79,9 @@ def fetch(table, query):
     return line({"do": "fetch", "app": "A", "table": table, "query": query})
 
 
-def queries():
-    yield line({"do": "write", "app": "A", "ops": [create(i) for i in range(20000)]})
-    yield line({"do": "write", "app": "A", "ops": [comment(i) for i in range(40000)]})
+def queries(part):
+    yield line({"do": "write", "app": "A", "ops": [create(i) for i in range(1250 * part)]})
+    yield line({"do": "write", "app": "A", "ops": [comment(i) for i in range(2500 * part)]})
     where = lambda column, op, value: {"column": column, "op": op, "value": value}
     for i in range(50):
         yield fetch("posts", {"where": [where("score", "eq", i)]})
@@ -86,17 +91,53 @@ def queries():
         yield fetch("posts", {"where": [{"on": "comments", "is": [where("likes", "gt", 18)]}], "take": 20})
 
 
-WORKLOADS = {"small-writes": small_writes, "big-batches": big_batches, "mixed-writes": mixed_writes, "queries": queries}
+def turn(name):
+    return line({"do": "turn", "app": "A", "name": name})
+
+
+def observers(part):
+    yield line({"do": "write", "app": "A", "ops": [create(i) for i in range(2500 * part)]})
+    for n in range(32):
+        query = {"where": [{"column": "score", "op": "eq", "value": n}]}
+        if n % 4 == 3:
+            query.update(sortBy=[["title", "asc"]], take=10)
+        yield line({"do": "observe", "app": "A", "name": "o%d" % n, "table": "posts", "query": query, "shape": "ids"})
+    for i in range(2000):
+        yield write({"update": "posts", "id": "g%07d" % (i * 7 % (2500 * part)), "set": {"score": 32 + i % 64}})
+        yield turn("o%d" % (i % 32))
+
+
+def watches(part):
+    yield line({"do": "write", "app": "A", "ops": [create(i) for i in range(1250 * part)]})
+    yield line({"do": "write", "app": "A", "ops": [comment(i) for i in range(2500 * part)]})
+    for n in range(32):
+        yield line({"do": "watch", "app": "A", "name": "w%d" % n, "table": "comments", "id": "c%07d" % (2 * n), "to": "posts"})
+    for i in range(2000):
+        yield write({"update": "posts", "id": "g%07d" % (i % 64), "set": {"score": i % 50}})
+        yield turn("w%d" % (i % 32))
+
+
+ENDLESS = ("small-writes", "big-batches", "mixed-writes")
+
+
+def is_long(part, size):
+    return size > LIMIT * part // 16
+
+
+WORKLOADS = {"small-writes": small_writes, "big-batches": big_batches, "mixed-writes": mixed_writes,
+             "queries": queries, "observers": observers, "watches": watches}
 
 
 def main():
-    if len(sys.argv) != 2 or sys.argv[1] not in WORKLOADS:
+    part = int(sys.argv[2]) if len(sys.argv) == 3 else 16
+    if len(sys.argv) not in (2, 3) or sys.argv[1] not in WORKLOADS or part not in (1, 4, 16):
         sys.exit(__doc__)
     size = len(OPEN) + len(FETCH)
     sys.stdout.write(OPEN)
-    for text in WORKLOADS[sys.argv[1]]():
+    for text in WORKLOADS[sys.argv[1]](part):
         size += len(text)
-        if size > LIMIT:
+        # the workloads without an end are as long as their part of the longest script
+        if size > LIMIT or sys.argv[1] in ENDLESS and is_long(part, size):
             break
         sys.stdout.write(text)
     sys.stdout.write(FETCH)

@@ -1,0 +1,85 @@
+-- What the keeper tells after a call.
+use Rattle.std.proofs.Common.{◌≡◌, ◌⊎◌, inl, inr, ℕ, Bool, true, false, not, List, refl, sym, ap, ◌∙◌, IsTrue, arith}
+use Rattle.sqlite_trees.specs.Tree.{Trees}
+use Rattle.sqlite.specs.Effect.{Database}
+use Rattle.sqlite.specs.State.{State, HasCleanDisk, Survives}
+use Rattle.melon_outside.specs.declared.kept.Kept.{Kept}
+use Rattle.melon_outside.specs.Keeping.{Changes, Stores, AreSame}
+use Rattle.melon_sqlite.specs.Contents.{stores_in}
+use Rattle.melon_sqlite.specs.Statements.{StaysShut}
+use Rattle.melon_sqlite.specs.Telling.{TellsIn, GoesOnIn, HoldsIn, Knows, LeavesIn, StaysIdle}
+use Rattle.melon_sqlite.specs.Transactions.{Idle, Whole}
+
+pub outside_from : (b r : Bool) → r ≡ not b → r ≡ true → b ≡ false
+outside_from true r e f = absurd (cc)
+outside_from false r e f = refl
+
+-- what tells now told before
+pub told_before : (fits : Bool) (old new : State) (P : Trees → Type 0) → old.in_transaction ≡ false → Survives old new P → (HasCleanDisk new → StaysShut old new) → TellsIn fits new → TellsIn fits old
+told_before fits old new P outside s o T = record { fits_now = T.fits_now; clean = omega (arith, s.clean, T.clean); is_open = o T.clean T.is_open; outside = outside }
+
+module _ (f : Kept → Kept) (store : List ℕ) (fits : Bool) (old new : State) (knows : Knows fits old) (outside : old.in_transaction ≡ false) (s : Survives old new (Whole f store Idle old)) where
+  pub ok_done : (HasCleanDisk new → StaysShut old new × (Idle old → Idle new × Changes f store (stores_in old.now.trees) (stores_in new.now.trees))) → (m : Stores) → HoldsIn fits new m → (was : Stores) × HoldsIn fits old was × Changes f store was m
+  ok_done c m h =
+      let T = told_before fits old new _ outside s (λ clean. (c clean).0) h.0 in
+      let r = (c h.0.clean).1 (knows T) in
+      (stores_in old.now.trees, (T, λ _. refl), (h.1 store ∙ r.1.0, λ other apart. h.1 other ∙ r.1.1 other apart))
+
+  pub err_done : (HasCleanDisk new → StaysShut old new × (Idle old → IsTrue new.is_open → Idle new × (new.now ≡ old.now))) → (m : Stores) → HoldsIn fits new m → (was : Stores) × HoldsIn fits old was × AreSame m was
+  err_done c m h =
+      let T = told_before fits old new _ outside s (λ clean. (c clean).0) h.0 in
+      let r = (c h.0.clean).1 (knows T) h.0.is_open in
+      (stores_in old.now.trees, (T, λ _. refl), λ one. h.1 one ∙ ap (λ (d : Database). stores_in d.trees one) r.1)
+
+  pub ok_knows : (HasCleanDisk new → StaysShut old new × (Idle old → Idle new × Changes f store (stores_in old.now.trees) (stores_in new.now.trees))) → Knows fits new
+  ok_knows c T = ((c T.clean).1 (knows (told_before fits old new _ outside s (λ clean. (c clean).0) T))).0
+
+  pub err_knows : (HasCleanDisk new → StaysShut old new × (Idle old → IsTrue new.is_open → Idle new × (new.now ≡ old.now))) → Knows fits new
+  err_knows c T = ((c T.clean).1 (knows (told_before fits old new _ outside s (λ clean. (c clean).0) T)) T.is_open).0
+
+  pub may_leave : ((db : Trees) → IsTrue old.is_open → old.may_leave db → db ≡ old.committed.trees) → (was : Stores) → HoldsIn fits old was → (m : Stores) → LeavesIn new m → AreSame m was ⊎ Changes f store was m
+  may_leave law was h m left =
+      let I = knows h.0 in
+      elim (s.crash left.0 left.1 left.2) [
+        | inl before ↦ inl (λ one. left.3 one ∙ ap (λ (t : Trees). stores_in t one) (law left.1 h.0.is_open before ∙ ap (λ (d : Database). d.trees) I.settled) ∙ sym (h.1 one))
+        | inr whole ↦ let w = whole I in inr (left.3 store ∙ w.0 ∙ ap f (sym (h.1 store)), λ other apart. left.3 other ∙ w.1 other apart ∙ sym (h.1 other))
+      ]
+
+module _ (fits : Bool) (old new : State) (knows : Knows fits old) (outside : old.in_transaction ≡ false) (s : Survives old new (λ _. Idle old → ⊥)) (opened : HasCleanDisk new → StaysShut old new) (stays : HasCleanDisk new → StaysIdle old new) where
+  pub load_kept : (m : Stores) → HoldsIn fits new m → HoldsIn fits old m
+  load_kept m h =
+      let T = told_before fits old new _ outside s opened h.0 in
+      let r = stays h.0.clean (knows T) h.0.is_open in
+      (T, λ one. h.1 one ∙ ap (λ (d : Database). stores_in d.trees one) r.1)
+
+  pub load_found : (store : List ℕ) (kept : Kept) → (HasCleanDisk new → Idle old → Idle new × (kept ≡ stores_in old.now.trees store)) → (m : Stores) → HoldsIn fits new m → kept ≡ m store
+  load_found store kept loads m h = let was = load_kept m h in (loads h.0.clean (knows was.0)).1 ∙ sym (was.1 store)
+
+  pub load_knows : Knows fits new
+  load_knows T = (stays T.clean (knows (told_before fits old new _ outside s opened T)) T.is_open).0
+
+  pub load_leaves : ((db : Trees) → IsTrue old.is_open → old.may_leave db → db ≡ old.committed.trees) → (was : Stores) → HoldsIn fits old was → (m : Stores) → LeavesIn new m → AreSame m was
+  load_leaves law was h m left =
+      let I = knows h.0 in
+      elim (s.crash left.0 left.1 left.2) [
+        | inl before ↦ λ one. left.3 one ∙ ap (λ (t : Trees). stores_in t one) (law left.1 h.0.is_open before ∙ ap (λ (d : Database). d.trees) I.settled) ∙ sym (h.1 one)
+        | inr never ↦ absurd (never I)
+      ]
+
+-- a call that does nothing
+pub quiet_leaves : (fits : Bool) (s : State) → Knows fits s → ((db : Trees) → IsTrue s.is_open → s.may_leave db → db ≡ s.committed.trees) → (was : Stores) → HoldsIn fits s was → (m : Stores) → LeavesIn s m → AreSame m was
+quiet_leaves fits s knows law was h m left =
+    let I = knows h.0 in
+    λ one. left.3 one ∙ ap (λ (t : Trees). stores_in t one) (law left.1 h.0.is_open left.2 ∙ ap (λ (d : Database). d.trees) I.settled) ∙ sym (h.1 one)
+
+-- it goes on telling
+pub goes_on : (fits : Bool) (old new : State) (P : Trees → Type 0) → Knows fits old → Survives old new P → (HasCleanDisk new → Idle old → IsTrue new.is_open → new.in_transaction ≡ false) → GoesOnIn fits old new
+goes_on fits old new P knows s outside T clean = elim (s.closes clean T.is_open) [
+  | inl o ↦ inl (record { fits_now = T.fits_now; clean = clean; is_open = o; outside = outside clean (knows T) o })
+  | inr more ↦ inr more
+]
+
+pub load_tells : (fits : Bool) (old new : State) (store : List ℕ) (kept : Kept) → Knows fits old → (HasCleanDisk new → Idle old → Idle new × (kept ≡ stores_in old.now.trees store)) → TellsIn fits old → HasCleanDisk new → TellsIn fits new
+load_tells fits old new store kept knows loads T clean =
+    let idle = (loads clean (knows T)).0 in
+    record { fits_now = T.fits_now; clean = clean; is_open = idle.is_open; outside = idle.outside }

@@ -1,0 +1,19 @@
+use Rattle.std.proofs.Common.{[], Ok, Err, codes, is_some, sym, ap, ◌∙◌}
+use Rattle.sqlite_schema.specs.declared.schema.Schema.{Schema}
+use Rattle.sqlite_schema.specs.Names.{table_named}
+use Rattle.sqlite.specs.Held.{state}
+use Rattle.melon_sqlite.specs.Tables.{rows_text}
+use Rattle.melon_sqlite.proofs.Makes.{first_made}
+use Rattle.melon_sqlite.proofs.Opens.{executes_open}
+use Rattle.melon_sqlite.proofs.opening.make_rows.Goals as goal
+
+pub returns-in-Ok-clause-kept : goal.returns-in-Ok-clause-kept
+returns-in-Ok-clause-kept g c clean m =
+    first_made (state g.S.Store c.args.conn.now) (state g.S.Store c.create_rows.new.conn) m c.in-Ok.field-0
+    (ap (λ (s : Schema). is_some (table_named s (codes "kept_rows"))) (sym c.schema.ensures.value) ∙ sym c.has_table.ensures ∙ c.if-has_table.false) (c.in-Ok.ensures.runs clean)
+
+pub returns-in-Ok-clause-opened : goal.returns-in-Ok-clause-opened
+returns-in-Ok-clause-opened g c clean = executes_open rows_text [] (state g.S.Store c.args.conn.now) (state g.S.Store c.create_rows.new.conn) (Ok c.in-Ok.field-0) (c.in-Ok.ensures.runs clean)
+
+pub returns-in-Err-clause-opened : goal.returns-in-Err-clause-opened
+returns-in-Err-clause-opened g c clean = executes_open rows_text [] (state g.S.Store c.args.conn.now) (state g.S.Store c.create_rows.new.conn) (Err c.in-Err.error) (c.in-Err.ensures.runs clean)
