@@ -1,0 +1,6 @@
+use Rattle.std.proofs.Common.{◌≡◌, drop}
+use Rattle.melon_wire.specs.Resolution.{value_in}
+use Rattle.melon_backend.proofs.cells.value_in.Given as goal
+
+abbrev pub invariant-loop-field : goal.invariant-loop-field
+invariant-loop-field l = value_in (drop l.field-index l.fields) l.name ≡ value_in l.fields l.name

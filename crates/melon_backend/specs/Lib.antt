@@ -1,0 +1,16 @@
+pub mod Bodies
+pub mod Rows
+pub mod Inside
+pub mod Pulling
+pub mod Backends
+pub mod Opened
+pub mod Fields
+pub mod Carried
+pub mod Pushing
+pub mod Standing
+pub mod Keeps
+pub mod Listing
+pub mod Drafts
+pub mod Pushed
+pub mod Ready
+pub mod Laws

@@ -1,0 +1,5 @@
+pub mod ServerRows
+pub mod Log
+pub mod Pulled
+pub mod Verdict
+pub mod Laws
