@@ -24,7 +24,8 @@ fn script(alloc: Global, lines: &[&str]) -> Result<Vec<u8>, Fail> {
     Ok(bytes)
 }
 
-fn expect<R: Abort + AllocGlobal>(
+/// Runs these lines, and holds the end and the text against what is wanted.
+pub fn expect<R: Abort + AllocGlobal>(
     rt: &R,
     lines: &[&str],
     outside: &Outside<'_>,
