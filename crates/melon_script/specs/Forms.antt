@@ -7,7 +7,7 @@ use Rattle.melon_schema.specs.Bytes.{json_of}
 use Rattle.melon_schema.specs.Json.{◌>>=◌, given, has_only, text_at, list_of, each}
 use Rattle.melon_script.specs.declared.line.LineShape.{LineShape}
 use Rattle.melon_script.specs.declared.line.LineShape.TheVariants.{Ids, Columns}
-use Rattle.melon_script.specs.SeenLine.{SeenLine, Open, Close, Enter, Nest, Leave, Write, Fetch, Rows, Observe, Watch, Turn, Drop, Parent, Children}
+use Rattle.melon_script.specs.SeenLine.{SeenLine, Open, Close, Enter, Nest, Leave, Write, Fetch, Rows, Observe, Watch, Turn, Drop, Parent, Children, Backend, Server}
 
 abbrev pub part_at : List ℕ → Data → Option Data
 part_at key d = get key d
@@ -154,6 +154,20 @@ children_form d = do
   to ← text_at (codes "to") d
   Some (Children app table id to)
 
+-- {"do":"backend","schema":any}
+unfoldable pub backend_form : Data → Option SeenLine
+backend_form d = do
+  known ← given (has_only (codes "do" ∷ codes "schema" ∷ []) d)
+  schema ← part_at (codes "schema") d
+  Some (Backend schema)
+
+-- {"do":"server","table":text}
+unfoldable pub server_form : Data → Option SeenLine
+server_form d = do
+  known ← given (has_only (codes "do" ∷ codes "table" ∷ []) d)
+  table ← text_at (codes "table") d
+  Some (Server table)
+
 unfoldable pub form_of : Data → Option SeenLine
 form_of d = do
   word ← text_at (codes "do") d
@@ -170,7 +184,9 @@ form_of d = do
       (if bytes_eq word (codes "turn") then turn_form d else
       (if bytes_eq word (codes "drop") then drop_form d else
       (if bytes_eq word (codes "parent") then parent_form d else
-      (if bytes_eq word (codes "children") then children_form d else None)))))))))))))
+      (if bytes_eq word (codes "children") then children_form d else
+      (if bytes_eq word (codes "backend") then backend_form d else
+      (if bytes_eq word (codes "server") then server_form d else None)))))))))))))))
 
 -- spaces and tabs alone
 abbrev pub is_blank : List ℕ → Bool

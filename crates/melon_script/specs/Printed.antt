@@ -6,7 +6,7 @@ use Rattle.serde_json.specs.Written.{compact_text}
 use Rattle.melon_raw.specs.Encoding.{datum_data}
 use Rattle.melon_raw.specs.declared.datum.OpField.{OpField}
 use Rattle.melon_script.specs.declared.item.Item.{Item}
-use Rattle.melon_script.specs.declared.item.Item.TheVariants.{Open, Close, EnterHolds, EnterWaits, Nest, LeaveDepth, LeaveNext, LeaveFree, Write, Fetch, Rows, Emit, Still, Drop, Parent, Children, Refused}
+use Rattle.melon_script.specs.declared.item.Item.TheVariants.{Open, Close, EnterHolds, EnterWaits, Nest, LeaveDepth, LeaveNext, LeaveFree, Write, Fetch, Rows, Emit, Still, Drop, Parent, Children, Backend, Server, Refused}
 use Rattle.melon_script.specs.declared.item.Given.{Given}
 use Rattle.melon_script.specs.declared.item.Given.TheVariants as given
 use Rattle.melon_script.specs.declared.item.GivenRow.{GivenRow}
@@ -114,12 +114,24 @@ parent_text app shown = (parent_head app ++ given_text shown) ++ 10 ∷ []
 abbrev pub children_text : List ℕ → List (List ℕ) → List ℕ
 children_text app ids = codes "children " ++ (app ++ (codes " " ++ (list_text ids ++ 10 ∷ [])))
 
+-- ---- the server
+
+abbrev pub backend_text : ℕ → List ℕ
+backend_text revision = codes "backend revision " ++ (decimal revision ++ 10 ∷ [])
+
+abbrev pub server_head : List ℕ → ℕ → List ℕ
+server_head table revision = codes "server " ++ (table ++ (codes " revision " ++ (decimal revision ++ codes " ")))
+
+abbrev pub server_text : List ℕ → ℕ → List ℕ → List ℕ
+server_text table revision rows = (server_head table revision ++ rows) ++ 10 ∷ []
+
 -- ---- refusals
 
 abbrev pub group_word : Group → List ℕ
 group_word groups.App = codes "app"
 group_word groups.Open = codes "open"
 group_word groups.Schema = codes "schema"
+group_word groups.Backend = codes "backend"
 group_word groups.Table = codes "table"
 group_word groups.Queue = codes "queue"
 group_word groups.Ops = codes "ops"
@@ -163,6 +175,8 @@ item_text (Still app name at) = still_text app name at
 item_text (Drop app name) = drop_text app name
 item_text (Parent app shown) = parent_text app shown
 item_text (Children app ids) = children_text app ids
+item_text (Backend revision) = backend_text revision
+item_text (Server table revision rows) = server_text table revision rows
 item_text (Refused group number details) = refused_text group number details
 
 -- the items of an answer, one after another

@@ -9,7 +9,7 @@ use Rattle.melon_script.specs.declared.line.Line.{Line}
 use Rattle.melon_script.specs.declared.line.Line.TheVariants as lines
 use Rattle.melon_script.specs.declared.line.LineFault.{LineFault}
 use Rattle.melon_script.specs.declared.line.LineFault.TheVariants.{Form, Memory}
-use Rattle.melon_script.specs.SeenLine.{SeenLine, Open, Close, Enter, Nest, Leave, Write, Fetch, Rows, Observe, Watch, Turn, Drop, Parent, Children}
+use Rattle.melon_script.specs.SeenLine.{SeenLine, Open, Close, Enter, Nest, Leave, Write, Fetch, Rows, Observe, Watch, Turn, Drop, Parent, Children, Backend, Server}
 use Rattle.melon_script.specs.Forms.{line_of, is_blank}
 
 abbrev pub seen : Line → SeenLine
@@ -27,6 +27,8 @@ seen (lines.Turn app name) = Turn app name
 seen (lines.Drop app name) = Drop app name
 seen (lines.Parent app table id to) = Parent app table id to
 seen (lines.Children app table id to) = Children app table id to
+seen (lines.Backend schema) = Backend (view schema)
+seen (lines.Server table) = Server table
 
 -- The line that was read is seen as what the form gives. It is refused exactly where the form gives nothing, unless memory runs out.
 abbrev pub AnswersSeen : Result Line Refusal → Option SeenLine → Type 0

@@ -18,3 +18,5 @@ pub data SeenLine : Type 0 where
   Drop : List ℕ → List ℕ → SeenLine
   Parent : List ℕ → List ℕ → List ℕ → List ℕ → SeenLine
   Children : List ℕ → List ℕ → List ℕ → List ℕ → SeenLine
+  Backend : Data → SeenLine
+  Server : List ℕ → SeenLine

@@ -81,6 +81,15 @@ pub enum Item {
         app: Text,
         ids: List<Id>,
     },
+    Backend {
+        revision: u64,
+    },
+    /// The rows are written as a list already.
+    Server {
+        table: Text,
+        revision: u64,
+        rows: List<u8>,
+    },
     Refused {
         group: Group,
         number: u64,
@@ -112,6 +121,7 @@ pub enum Group {
     App,
     Open,
     Schema,
+    Backend,
     Table,
     Queue,
     Ops,

@@ -3,7 +3,7 @@ ghost use Rattle.std.specs.Prelude.{◌≡◌, Some};
 ghost use Rattle.serde_json.specs.View.{view};
 ghost use Rattle.melon_schema.specs.Refusals.{Answers};
 ghost use Rattle.melon_script.specs.Seen.{seen, AnswersSeen, ReadsLine, Takes};
-ghost use Rattle.melon_script.specs.Forms.{open_form, close_form, enter_form, nest_form, leave_form, text_if_at, write_form, fetch_form, rows_form, shape_of, shape_at, observe_form, watch_form, turn_form, drop_form, parent_form, children_form, form_of, is_blank, line_of, part_at};
+ghost use Rattle.melon_script.specs.Forms.{open_form, close_form, enter_form, nest_form, leave_form, text_if_at, write_form, fetch_form, rows_form, shape_of, shape_at, observe_form, watch_form, turn_form, drop_form, parent_form, children_form, backend_form, server_form, form_of, is_blank, line_of, part_at};
 
 use melon_schema::reader::{has_only, items_of, json_of, read_each, text_at};
 use melon_schema::{List, Refusal, Text};
@@ -80,6 +80,12 @@ pub enum Line {
         table: Text,
         id: Text,
         to: Text,
+    },
+    Backend {
+        schema: Value,
+    },
+    Server {
+        table: Text,
     },
 }
 
@@ -340,6 +346,28 @@ fn children_form(alloc: Global, json: &Value) -> Result<Line, Refusal>
     Ok(Line::Children { app, table, id, to })
 }
 
+#[tactic(auto, unfolding(crate::specs::Forms::backend_form))]
+fn backend_form(json: &mut Value) -> Result<Line, Refusal>
+    ensures { AnswersSeen result (backend_form (view json.old)) }
+{
+    if !has_only(json, &["do", "schema"]) {
+        return Err(Refusal::Form);
+    }
+    let schema = take_part(json, "schema")?;
+    Ok(Line::Backend { schema })
+}
+
+#[tactic(auto, unfolding(crate::specs::Forms::server_form))]
+fn server_form(alloc: Global, json: &Value) -> Result<Line, Refusal>
+    ensures { AnswersSeen result (server_form (view json.now)) }
+{
+    if !has_only(json, &["do", "table"]) {
+        return Err(Refusal::Form);
+    }
+    let table = text_at(alloc, json, "table")?;
+    Ok(Line::Server { table })
+}
+
 #[tactic(auto, unfolding(crate::specs::Forms::form_of))]
 fn form_of(alloc: Global, json: &mut Value) -> Result<Line, Refusal>
     ensures { AnswersSeen result (form_of (view json.old)) }
@@ -360,6 +388,8 @@ fn form_of(alloc: Global, json: &mut Value) -> Result<Line, Refusal>
         "drop" => drop_form(alloc, json),
         "parent" => parent_form(alloc, json),
         "children" => children_form(alloc, json),
+        "backend" => backend_form(json),
+        "server" => server_form(alloc, json),
         _ => Err(Refusal::Form),
     }
 }

@@ -1,7 +1,7 @@
 //! The texts of items.
 ghost use Rattle.std.specs.Prelude.{◌≡◌, ◌++◌, map, IfOk, OnOk, string_bytes};
 ghost use Rattle.serde_json.specs.View.{view, members_view};
-ghost use Rattle.melon_script.specs.Printed.{list_text, quoted, with_commas, joined, open_text, close_text, holds_text, waits_text, nest_text, depth_text, next_text, free_text, write_text, fetch_text, rows_head, rows_text, with_fields, given_row_data, given_row_text, given_rows_text, given_text, emit_head, emit_text, still_text, drop_text, parent_head, parent_text, children_text, group_word, detail_text, details_text, refused_head, refused_text, item_text, answer_text};
+ghost use Rattle.melon_script.specs.Printed.{list_text, quoted, with_commas, joined, open_text, close_text, holds_text, waits_text, nest_text, depth_text, next_text, free_text, write_text, fetch_text, rows_head, rows_text, with_fields, given_row_data, given_row_text, given_rows_text, given_text, emit_head, emit_text, still_text, drop_text, parent_head, parent_text, children_text, backend_text, server_head, server_text, group_word, detail_text, details_text, refused_head, refused_text, item_text, answer_text};
 
 use crate::Answer;
 use crate::item::{Detail, Given, GivenRow, Group, Item};
@@ -284,6 +284,32 @@ fn children_text(alloc: Global, app: &str, ids: &[Id]) -> Result<String, AllocEr
     format!(in alloc; "children {app} {list}\n")
 }
 
+fn backend_text(alloc: Global, revision: u64) -> Result<String, AllocError>
+    ensures { IfOk result (λ text. string_bytes text ≡ backend_text revision) }
+{
+    format!(in alloc; "backend revision {revision}\n")
+}
+
+fn server_head(alloc: Global, table: &str, revision: u64) -> Result<String, AllocError>
+    ensures { IfOk result (λ text. string_bytes text ≡ server_head table.now revision) }
+{
+    format!(in alloc; "server {table} revision {revision} ")
+}
+
+fn server_text(
+    alloc: Global,
+    table: &str,
+    revision: u64,
+    rows: &[u8],
+) -> Result<Vec<u8>, AllocError>
+    ensures { IfOk result (λ out. out.items ≡ server_text table.now revision rows.now) }
+{
+    let mut out = server_head(alloc, table, revision)?.into_bytes();
+    out.extend_from_slice(rows)?;
+    out.push(b'\n')?;
+    Ok(out)
+}
+
 fn group_word(group: Group) -> &'static str
     ensures { result.now ≡ group_word group }
 {
@@ -291,6 +317,7 @@ fn group_word(group: Group) -> &'static str
         Group::App => "app",
         Group::Open => "open",
         Group::Schema => "schema",
+        Group::Backend => "backend",
         Group::Table => "table",
         Group::Queue => "queue",
         Group::Ops => "ops",
@@ -398,6 +425,12 @@ fn item_text(alloc: Global, item: &Item) -> Result<Vec<u8>, AllocError>
         Item::Children { app, ids } => {
             Ok(children_text(alloc, app.as_str(), ids.as_slice())?.into_bytes())
         }
+        Item::Backend { revision } => Ok(backend_text(alloc, *revision)?.into_bytes()),
+        Item::Server {
+            table,
+            revision,
+            rows,
+        } => server_text(alloc, table.as_str(), *revision, rows.as_slice()),
         Item::Refused {
             group,
             number,
