@@ -12,8 +12,9 @@ use Rattle.melon_script.specs.Lines.{lines_of}
 use Rattle.melon_script.specs.Script.{forms_in, forms_of, bad_from, bad_line, IsLine, IsOutside}
 use Rattle.melon_script.specs.Printed.{answer_text}
 use Rattle.melon_machine.specs.Calls.{Calls, failures, RoseBy, Follows}
-use Rattle.melon_machine.specs.State.{App, KeptApp, State, none_open}
-use Rattle.melon_machine.specs.Step.{Stepped, ends_with, step}
+use Rattle.melon_machine.specs.State.{Machine, KeptMachine, none_open}
+use Rattle.melon_machine.specs.Outcomes.{Stepped, ends_with}
+use Rattle.melon_machine.specs.Step.{step}
 use Rattle.melon_machine.specs.Run.{Ran, run, line_calls, ComesTo}
 use Rattle.melon_machine.proofs.Followed.{same_is, rose_more}
 use Rattle.melon_machine.proofs.Ran as machine
@@ -27,11 +28,11 @@ use Rattle.melon_cli.specs.Runs.{RunsWhole, RanSoFar, RunsSoFar, RunsTo, Pends, 
 use Rattle.melon_cli.proofs.Fronts.{pends_all, pends_more, pends_written, pends_cut, pends_front, front_written, written_cut, front_written_cut}
 
 -- The run has come to these lines, and the world has the stores of its apps.
-pub record At (script : List ℕ) (was m : Stores) (count count' : ℕ) (world : State KeptApp) (rest : List SeenLine) (Shows : List ℕ → Type 0) : Type 0 where
+pub record At (script : List ℕ) (was m : Stores) (count count' : ℕ) (world : KeptMachine) (rest : List SeenLine) (Shows : List ℕ → Type 0) : Type 0 where
   pub so_far : RanSoFar script was m count count' rest Shows
   pub as_kept : IsKeptAs so_far.now world
 
-pub record Progress (script : List ℕ) (held holds : Stores → Type 0) (count count' : ℕ) (before after : Option (List ℕ)) (pending : List ℕ) (world : State KeptApp) (rest : List ℕ) (number : ℕ) : Type 0 where
+pub record Progress (script : List ℕ) (held holds : Stores → Type 0) (count count' : ℕ) (before after : Option (List ℕ)) (pending : List ℕ) (world : KeptMachine) (rest : List ℕ) (number : ℕ) : Type 0 where
   pub bad_is : bad_from number (lines_of rest) ≡ bad_line script
   pub goes : (m : Stores) → holds m → (was : Stores) × held was × At script was m count count' world (forms_of (lines_of rest)) (Pends before after pending)
 
@@ -48,7 +49,7 @@ carried {script} {was} {mid} m {count} {between} count' {rest} {P} {Q} r same la
 }
 
 module _ (script : List ℕ) (held : Stores → Type 0) (count : ℕ) (before : Option (List ℕ)) where
-  pub at_start : (pending : List ℕ) (world : State KeptApp) → pending ≡ [] → world ≡ none_open → Progress script held held count count before before pending world script 0
+  pub at_start : (pending : List ℕ) (world : KeptMachine) → pending ≡ [] → world ≡ none_open → Progress script held held count count before before pending world script 0
   unfolding bad_line forms_in
   at_start pending world none new = record {
     bad_is = refl;
@@ -64,15 +65,15 @@ module _ (script : List ℕ) (held : Stores → Type 0) (count : ℕ) (before : 
           rose = omega arith;
           shows = pends_all before pending [] none;
         };
-        as_kept = record { same = sym new; legal = tt };
+        as_kept = record { same = sym new; legal = record { apps = tt; server = tt } };
       },
     );
   }
 
-  module _ (mid : Stores → Type 0) (between : ℕ) (written : Option (List ℕ)) (pending : List ℕ) (world : State KeptApp) (rest : List ℕ) (number : ℕ) (p : Progress script held mid count between before written pending world rest number)
+  module _ (mid : Stores → Type 0) (between : ℕ) (written : Option (List ℕ)) (pending : List ℕ) (world : KeptMachine) (rest : List ℕ) (number : ℕ) (p : Progress script held mid count between before written pending world rest number)
       (bytes later : List ℕ) (is : lines_of rest ≡ bytes ∷ lines_of later) (holds : Stores → Type 0) (count' : ℕ) where
     -- one line more, however its text is shown
-    line_more : (world' : State KeptApp) (Shows Left : List ℕ → Type 0) → IsLine bytes → Takes (λ m. line_calls m bytes) world world' mid holds between count' Shows
+    line_more : (world' : KeptMachine) (Shows Left : List ℕ → Type 0) → IsLine bytes → Takes (λ m. line_calls m bytes) world world' mid holds between count' Shows
         → ((printed text : List ℕ) → Pends before written pending printed → Shows text → Left (printed ++ text))
         → (m : Stores) → holds m → (was : Stores) × held was × At script was m count count' world' (forms_of (lines_of later)) Left
     line_more world' Shows Left line takes more m told =
@@ -98,7 +99,7 @@ module _ (script : List ℕ) (held : Stores → Type 0) (count : ℕ) (before : 
           },
         )
 
-    pub after_line : (world' : State KeptApp) (after : Option (List ℕ)) (pending' : List ℕ) → IsLine bytes
+    pub after_line : (world' : KeptMachine) (after : Option (List ℕ)) (pending' : List ℕ) → IsLine bytes
         → Takes (λ m. line_calls m bytes) world world' mid holds between count' (λ text. Pends written after pending' (pending ++ text)) → Progress script held holds count count' before after pending' world' later (number + 1)
     after_line world' after pending' line takes = record {
       bad_is = sym (ap (bad_from number) is ∙ machine.bad_later number bytes (lines_of later) line) ∙ p.bad_is;
@@ -147,7 +148,7 @@ module _ (script : List ℕ) (held : Stores → Type 0) (count : ℕ) (before : 
             (subst (λ (w : List ℕ). PendsFront before written pending w) (sym e) (pends_front before written pending printed later shown)))
 
     -- memory ran out before the text of the line was added
-    pub stopped_after : (world' : State KeptApp) (after : Option (List ℕ)) (pending' : List ℕ) → IsUntouched written after pending pending' → IsLine bytes
+    pub stopped_after : (world' : KeptMachine) (after : Option (List ℕ)) (pending' : List ℕ) → IsUntouched written after pending pending' → IsLine bytes
         → Takes (λ m. line_calls m bytes) world world' mid holds between count' (λ _. Unit {0}) → RunsSoFar script held holds count count' (PendsFront before after pending')
     stopped_after world' after pending' u line takes m told =
         let l = line_more world' (λ _. Unit {0}) (PendsFront before after pending') line takes
@@ -155,13 +156,13 @@ module _ (script : List ℕ) (held : Stores → Type 0) (count : ℕ) (before : 
         (subst (λ (q : List ℕ). PendsFront before written q (printed ++ text)) (sym u.1) (pends_front before written pending printed text shown))) m told in
         (l.0, l.1, forms_of (lines_of later), l.2.so_far)
 
-    pub stopped : (world' : State KeptApp) (after : Option (List ℕ)) (pending' : List ℕ) → IsUntouched written after pending pending' → between ≤ count'
+    pub stopped : (world' : KeptMachine) (after : Option (List ℕ)) (pending' : List ℕ) → IsUntouched written after pending pending' → between ≤ count'
         → HoldsAsBefore mid holds ⊎ (IsLine bytes × Takes (λ m. line_calls m bytes) world world' mid holds between count' (λ _. Unit {0})) → RunsSoFar script held holds count count' (PendsFront before after pending')
     stopped world' after pending' u rose (inl as_before) = stopped_before after pending' u as_before rose
     stopped world' after pending' u rose (inr taken) = stopped_after world' after pending' u taken.0 taken.1
 
     -- the output failed
-    pub cut_short : (world' : State KeptApp) (after : Option (List ℕ)) → IsLine bytes
+    pub cut_short : (world' : KeptMachine) (after : Option (List ℕ)) → IsLine bytes
         → Takes (λ m. line_calls m bytes) world world' mid holds between count' (λ text. GrowsByFront written after (pending ++ text)) → RunsSoFar script held holds count count' (GrowsByFront before after)
     cut_short world' after line takes m told =
         let l = line_more world' (λ text. GrowsByFront written after (pending ++ text)) (GrowsByFront before after) line takes
@@ -170,7 +171,7 @@ module _ (script : List ℕ) (held : Stores → Type 0) (count : ℕ) (before : 
 
   module _ (holds : Stores → Type 0) (count' : ℕ) where
     -- nothing is left
-    pub at_end : (after : Option (List ℕ)) (pending : List ℕ) (world : State KeptApp) (rest : List ℕ) (number : ℕ) → Progress script held holds count count' before after pending world rest number → length rest ≡ 0
+    pub at_end : (after : Option (List ℕ)) (pending : List ℕ) (world : KeptMachine) (rest : List ℕ) (number : ℕ) → Progress script held holds count count' before after pending world rest number → length rest ≡ 0
         → (bad_line script ≡ None) × RunsTo script held holds count count' [] (Pends before after pending)
     at_end after pending world rest number p none =
         let is : rest ≡ [] = empty_from rest none in (
@@ -217,7 +218,7 @@ module _ (script : List ℕ) (held : Stores → Type 0) (count : ℕ) (before : 
         (g.0, g.1, g.2, carried m count' g.3 (λ name. refl) (omega arith) (λ printed shown. front_written_cut before written after pending printed shown cut))
 
 -- a blank line asks nothing of the keeper and prints nothing
-pub takes_blank : (world : State KeptApp) (bytes : List ℕ) (read : Option Line) (holds : Stores → Type 0) (count : ℕ) (before : Option (List ℕ)) (pending : List ℕ) → ReadsLine bytes (Ok read) → read ≡ None
+pub takes_blank : (world : KeptMachine) (bytes : List ℕ) (read : Option Line) (holds : Stores → Type 0) (count : ℕ) (before : Option (List ℕ)) (pending : List ℕ) → ReadsLine bytes (Ok read) → read ≡ None
     → Takes (λ m. line_calls m bytes) world world holds holds count count (λ text. Pends before before pending (pending ++ text))
 takes_blank world bytes read holds count before pending h none m told =
     let blank : is_blank bytes ≡ true = subst (λ (r : Option Line). ReadsLine bytes (Ok r)) none h in (
@@ -227,13 +228,13 @@ takes_blank world bytes read holds count before pending h none m told =
       pends_all before pending (pending ++ []) (sym (append-nil pending)),
       λ app_machine as_kept. (
         [],
-        subst (λ (calls : Calls (Stepped KeptApp)). Follows calls m [] (ends_with world []) m) (machine.calls_of_blank app_machine bytes blank) (refl, ap (λ (w : State KeptApp). ends_with w []) as_kept.same, λ name. refl),
+        subst (λ (calls : Calls (Stepped KeptMachine)). Follows calls m [] (ends_with world []) m) (machine.calls_of_blank app_machine bytes blank) (refl, ap (λ (w : KeptMachine). ends_with w []) as_kept.same, λ name. refl),
         omega arith,
       ),
     )
 
 -- a line that was read
-pub takes_line : (world left : State KeptApp) (bytes : List ℕ) (read : Option Line) (line : Line) (held holds : Stores → Type 0) (count count' : ℕ) (Shows : List ℕ → Type 0) → ReadsLine bytes (Ok read) → read ≡ Some line
+pub takes_line : (world left : KeptMachine) (bytes : List ℕ) (read : Option Line) (line : Line) (held holds : Stores → Type 0) (count count' : ℕ) (Shows : List ℕ → Type 0) → ReadsLine bytes (Ok read) → read ≡ Some line
     → Takes (λ m. step m (seen line)) world left held holds count count' Shows → Takes (λ m. line_calls m bytes) world left held holds count count' Shows
 takes_line world left bytes read line held holds count count' Shows h some takes m told =
     let is : (is_blank bytes ≡ false) × (line_of bytes ≡ Some (seen line)) = subst (λ (r : Option Line). ReadsLine bytes (Ok r)) some h in
@@ -244,10 +245,10 @@ takes_line world left bytes read line held holds count count' Shows h some takes
       t.3,
       λ app_machine as_kept.
           let f = t.4 app_machine as_kept in
-          (f.0, subst (λ (calls : Calls (Stepped KeptApp)). Follows calls t.0 f.0 (ends_with left t.2) m) (machine.calls_of_line app_machine bytes (seen line) is.0 is.1) f.1, f.2),
+          (f.0, subst (λ (calls : Calls (Stepped KeptMachine)). Follows calls t.0 f.0 (ends_with left t.2) m) (machine.calls_of_line app_machine bytes (seen line) is.0 is.1) f.1, f.2),
     )
 
 -- a step whose text is shown so
-pub takes_step : (calls : State App → Calls (Stepped App)) (was now : State KeptApp) (held holds : Stores → Type 0) (count count' : ℕ) (items : List Item) (Shows : List ℕ → Type 0) → MeetsAs calls was held holds count count' (ends_with now items) → Shows (answer_text items)
+pub takes_step : (calls : Machine → Calls (Stepped Machine)) (was now : KeptMachine) (held holds : Stores → Type 0) (count count' : ℕ) (items : List Item) (Shows : List ℕ → Type 0) → MeetsAs calls was held holds count count' (ends_with now items) → Shows (answer_text items)
     → Takes calls was now held holds count count' Shows
 takes_step calls was now held holds count count' items Shows met shows m told = (let t = met m told in (t.0, t.1, items, shows, t.2))

@@ -10,8 +10,9 @@ use Rattle.melon_script.specs.Printed.{answer_text}
 use Rattle.melon_script.specs.declared.item.Item.{Item}
 use Rattle.melon_machine.specs.Calls.{Calls, failures, RoseBy, Follows}
 use Rattle.melon_machine.specs.Legal.{IsKeptAs}
-use Rattle.melon_machine.specs.State.{App, KeptApp, State}
-use Rattle.melon_machine.specs.Step.{Stepped, ends_with, kept_calls}
+use Rattle.melon_machine.specs.State.{Machine, KeptMachine}
+use Rattle.melon_machine.specs.Outcomes.{Stepped, ends_with}
+use Rattle.melon_machine.specs.Step.{kept_calls}
 use Rattle.melon_machine.specs.Run.{run, line_calls, ComesTo}
 
 -- the words of a run
@@ -49,7 +50,7 @@ pub record Prints (left rest before after : Option (List ℕ)) (held holds : Sto
 pub record RanSoFar (script : List ℕ) (was m : Stores) (faults_before faults_now : ℕ) (rest : List SeenLine) (Shows : List ℕ → Type 0) : Type 0 where
   pub outcomes : List Bool
   pub printed : List ℕ
-  pub now : State App
+  pub now : Machine
   pub comes : ComesTo script was outcomes printed now m rest
   pub rose : RoseBy (failures outcomes) faults_before faults_now
   pub shows : Shows printed
@@ -85,9 +86,9 @@ RunsTo script held holds faults_before faults_now rest Shows =
 -- ---- a line
 
 -- The items are shown so, and every machine that the code had so made these calls and is left so.
-abbrev pub Takes : (State App → Calls (Stepped App)) → State KeptApp → State KeptApp → (Stores → Type 0) → (Stores → Type 0) → ℕ → ℕ → (List ℕ → Type 0) → Type 0
+abbrev pub Takes : (Machine → Calls (Stepped Machine)) → KeptMachine → KeptMachine → (Stores → Type 0) → (Stores → Type 0) → ℕ → ℕ → (List ℕ → Type 0) → Type 0
 Takes calls was now held holds faults_before faults_now Shows =
-    (m : Stores) → holds m → (mid : Stores) × held mid × (items : List Item) × Shows (answer_text items) × ((machine : State App) → IsKeptAs machine was
+    (m : Stores) → holds m → (mid : Stores) × held mid × (items : List Item) × Shows (answer_text items) × ((machine : Machine) → IsKeptAs machine was
     → (used : List Bool) × Follows (kept_calls (calls machine)) mid used (ends_with now items) m × RoseBy (failures used) faults_before faults_now)
 
 -- nothing was added to what is written or pending

@@ -1,12 +1,11 @@
 -- Calls that are followed with their outcomes.
-use Rattle.std.proofs.Common.{◌≡◌, ℕ, ◌+◌, ◌-◌, ◌^◌, ◌≤◌, min, List, [], ◌∷◌, ◌++◌, Bool, true, false, cond, bytes_eq, refl, ap, sym, ◌∙◌, subst, arith}
+use Rattle.std.proofs.Common.{◌≡◌, ℕ, ◌+◌, ◌≤◌, List, [], ◌∷◌, ◌++◌, Bool, true, false, bytes_eq, refl, ap, sym, ◌∙◌, arith}
 use Rattle.std.specs.Prelude.{Option, Some, None, if◌then◌else◌}
 use Rattle.std.proofs.lemmas.Slice.Eq.{bytes_eq-Decides}
 use Rattle.melon_outside.specs.Kept.{batched}
 use Rattle.melon_outside.specs.Keeping.{Stores, AreSame, Changes}
-use Rattle.melon_outside.specs.declared.kept.Kept.{Kept}
 use Rattle.melon_outside.specs.declared.kept.KeptBatch.{KeptBatch}
-use Rattle.melon_machine.specs.Calls.{Calls, Done, Load, Commit, asks, with_end, failures, RoseBy, after_batch, Followed, follow, Follows, Meets}
+use Rattle.melon_machine.specs.Calls.{Calls, Done, Load, Commit, asks, with_end, failures, RoseBy, after_batch, follow, Follows, Meets}
 
 -- ---- what is kept
 

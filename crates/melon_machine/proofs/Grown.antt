@@ -5,7 +5,7 @@ use Rattle.melon_raw.specs.Rows.{Rows}
 use Rattle.melon_schema.specs.Seen.{SeenSchema}
 use Rattle.melon_outside.specs.declared.kept.Kept.{Kept}
 use Rattle.melon_board.specs.Opening.{open_plan, rows_opened, same_version, value_in}
-use Rattle.melon_schema.specs.Faults.{◌>>=◌, unless}
+use Rattle.melon_schema.specs.Faults.{◌>>=◌}
 use Rattle.melon_change.specs.declared.change.Change.{Change}
 use Rattle.melon_change.specs.declared.op.Op.{Op}
 use Rattle.melon_change.specs.declared.history.Entry.{Entry}
@@ -14,12 +14,11 @@ use Rattle.melon_change.specs.declared.history.Origin.TheVariants.{Local}
 use Rattle.melon_change.specs.Changes.{after_set}
 use Rattle.melon_change.specs.Batch.{batch_of}
 use Rattle.melon_change.specs.History.{replay}
-use Rattle.melon_board.specs.declared.fault.WriteFault.{WriteFault}
 use Rattle.melon_board.specs.declared.fault.WriteFault.TheVariants.{StoreFull, SessionFull}
 use Rattle.melon_board.specs.Batches.{kept_batch, version_name}
 use Rattle.melon_board.specs.Plans.{Plan, within_limit, entry_plan, install_plan, write_plan, as_batch}
 use Rattle.melon_board.specs.Sizes.{stored_bytes, journal_bytes}
-use Rattle.melon_board.specs.Stores.{SeenStore, with_entry}
+use Rattle.melon_board.specs.Stores.{with_entry}
 use Rattle.melon_machine.specs.State.{App, store_of, grown_to}
 
 pub replay_one_more : (rows : Rows) (es : List Entry) (e : Entry) → replay rows (es ++ e ∷ []) ≡ after_set (replay rows es) e.set

@@ -1,6 +1,6 @@
--- Each step leaves the machine sound.
-use Rattle.std.proofs.Common.{◌≡◌, ◌≢◌, ℕ, zero, suc, List, [], ◌∷◌, ◌++◌, map, length, set, get_or, Bool, true, false, bytes_eq, refl, ap, sym, ◌∙◌, subst, arith}
-use Rattle.std.specs.Prelude.{Option, Some, None, Result, Ok, Err, position, slice_get, nat_le, not, is_some, if◌then◌else◌}
+-- Each line of an app leaves the apps sound.
+use Rattle.std.proofs.Common.{◌≡◌, ◌≢◌, ℕ, zero, suc, List, [], ◌∷◌, ◌++◌, length, set, Bool, true, false, bytes_eq, refl, ap, sym, ◌∙◌, subst, arith}
+use Rattle.std.specs.Prelude.{Option, Some, None, Result, Ok, Err, slice_get, nat_le, not, is_some, if◌then◌else◌}
 use Rattle.std.specs.List.{remove}
 use Rattle.std.proofs.lemmas.List.{map-append}
 use Rattle.std.proofs.Math.Seq.{map-set_same}
@@ -15,7 +15,6 @@ use Rattle.melon_queue.specs.declared.queue.QueueFault.{QueueFault}
 use Rattle.melon_schema.specs.Schema.{schema_of}
 use Rattle.melon_schema.specs.Seen.{SeenSchema}
 use Rattle.melon_schema.specs.declared.schema_fault.SchemaFault.{SchemaFault}
-use Rattle.melon_raw.specs.Rows.{Rows}
 use Rattle.melon_outside.specs.Kept.{batched, is_in_order}
 use Rattle.melon_outside.specs.Keeping.{Stores}
 use Rattle.melon_outside.specs.declared.kept.Kept.{Kept}
@@ -37,7 +36,6 @@ use Rattle.melon_board.specs.Stores.{SeenStore, Continues, store_key}
 use Rattle.melon_board.specs.declared.fault.WriteFault.{WriteFault}
 use Rattle.melon_script.specs.SeenLine as lines
 use Rattle.melon_script.specs.SeenLine.{SeenLine}
-use Rattle.melon_script.specs.Script.{forms_in}
 use Rattle.melon_script.specs.declared.item.Item.{Item}
 use Rattle.melon_machine.specs.Calls.{Calls, Done, Load, Commit, asks, with_end, next, after_next, after_batch, Followed, follow}
 use Rattle.melon_schema.specs.Places.{table_named}
@@ -50,20 +48,20 @@ use Rattle.melon_relation.specs.declared.relation.Relation.{Relation}
 use Rattle.melon_relation.specs.declared.fault.RelationFault.{RelationFault}
 use Rattle.melon_relation.specs.Relations.{related}
 use Rattle.melon_script.specs.declared.line.LineShape.{LineShape}
-use Rattle.melon_machine.specs.State.{App, Observer, State, store_of, opened_as, grown_to, queued_to, observed_by, with_history, none_open}
-use Rattle.melon_machine.specs.Step.{Stepped, stepped, Told, told, put_back, place_of, with_opened, opens_by, opens_over, opens_under, open_fault, opens_unless, open_step, closes, close_step, on_found, on_place, on_app, writes_by, writes, write_fault, writes_unless, write_app, entered_as, enter_app, nested_as, nest_app, left_as, leave_app, fetched, rows_shown, parent_shown, children_shown, place_in, taken_fault, shape_in, unless_told, with_place, with_table, watches, observes_as, observes, observe_app, watches_by, watches_id, watch_app, drops, drop_app, turns_of, turns_at, turn_app, looks, step}
+use Rattle.melon_machine.specs.State.{App, Observer, store_of, opened_as, grown_to, queued_to, observed_by, with_history}
+use Rattle.melon_machine.specs.Outcomes.{Stepped, stepped}
+use Rattle.melon_machine.specs.Apps.{Told, told, put_back, place_of, with_opened, opens_by, opens_over, opens_under, opens_unless, open_step, closes, on_found, on_place, on_app, writes_by, writes, write_fault, writes_unless, write_app, entered_as, enter_app, nested_as, nest_app, left_as, leave_app, fetched, rows_shown, parent_shown, children_shown, place_in, taken_fault, shape_in, unless_told, with_place, observes_as, observes, observe_app, watches_by, watch_app, drops, drop_app, turns_of, turns_at, turn_app, looks, app_step}
 use Rattle.melon_machine.specs.Refusals.{keeper_refusal, writer_refusal, id_refusal, observer_refusal}
-use Rattle.melon_machine.specs.Run.{Ran, run_from, run}
-use Rattle.melon_machine.specs.Sound.{IsSoundApp, AreSoundApps, IsNotAmong, AreDifferent, names_of, IsSound, RunsAreSound}
+use Rattle.melon_machine.specs.Sound.{IsSoundApp, AreSoundApps, IsNotAmong, AreDifferent, names_of, AreSound}
 use Rattle.melon_machine.proofs.Grown.{grows_written, none_opened, opened_name}
-use Rattle.melon_machine.proofs.Names.{other_name, kept_there, kept_elsewhere, not_among, not_at, different_more, different_less}
+use Rattle.melon_machine.proofs.Names.{kept_there, kept_elsewhere, not_among, not_at, different_more, different_less}
 use Rattle.melon_machine.proofs.Simulated.{opened_store}
 
 -- ---- what is kept
 
--- whatever becomes of the calls, the machine is sound
-abbrev Lasts : Calls (Stepped App) → Stores → Type 0
-Lasts calls kept = (outcomes : List Bool) → IsSound (follow calls kept outcomes).value.after (follow calls kept outcomes).kept
+-- whatever becomes of the calls, the apps are sound
+abbrev pub Lasts : Calls (Stepped (List App)) → Stores → Type 0
+Lasts calls kept = (outcomes : List Bool) → AreSound (follow calls kept outcomes).value.after (follow calls kept outcomes).kept
 
 -- what is kept under a name is as it was
 abbrev IsElsewhere : List ℕ → Stores → Stores → Type 0
@@ -112,7 +110,7 @@ sound_set (a ∷ apps) (suc place) app app' kept kept' here same different elsew
 
 -- ---- a batch
 
-ordered_after : (name : List ℕ) (batch : KeptBatch) (kept : Stores) → ((other : List ℕ) → is_in_order (kept other) ≡ true) → is_in_order (batched batch (kept name)) ≡ true
+pub ordered_after : (name : List ℕ) (batch : KeptBatch) (kept : Stores) → ((other : List ℕ) → is_in_order (kept other) ≡ true) → is_in_order (batched batch (kept name)) ≡ true
     → (other : List ℕ) → is_in_order (after_batch name batch kept other) ≡ true
 ordered_after name batch kept h k other = by (bytes_eq name other) refl
   where
@@ -125,7 +123,7 @@ ordered_after name batch kept h k other = by (bytes_eq name other) refl
 
 -- a batch that is asked, where there is one
 module _ {X : Type 0} (Stays : X → Stores → Type 0) (name : List ℕ) (done failed : X) (kept : Stores) (ordered : (other : List ℕ) → is_in_order (kept other) ≡ true) (undone : Stays failed kept) where
-  asks_stays : (batch : Option KeptBatch)
+  pub asks_stays : (batch : Option KeptBatch)
       → ((kept' : Stores) → IsElsewhere name kept kept' → kept' (store_key name) ≡ kept_after batch (kept (store_key name)) → ((other : List ℕ) → is_in_order (kept' other) ≡ true) → Stays done kept')
       → is_in_order (kept_after batch (kept (store_key name))) ≡ true → (outcomes : List Bool) → Stays (follow (asks (store_key name) batch done failed) kept outcomes).value (follow (asks (store_key name) batch done failed) kept outcomes).kept
   asks_stays None k in_order outcomes = k kept (λ other apart. refl) refl ordered
@@ -144,13 +142,13 @@ opened_is store k none formed legal keeps =
     record { formed = subst IsWellFormed same formed; legal = subst (Continues store.rows) same legal; keeps = subst (λ (s : SeenStore). Keeps s k) same keeps }
 
 opens_by_lasts : (apps : List App) (name : List ℕ) (schema : SeenSchema) (kept : Stores) (r : Result Plan OpenFault) → open_plan name schema (kept (store_key name)) ≡ r → have_different_names schema.tables ≡ true
-    → IsNotAmong name (names_of apps) → IsSound (record { apps = apps }) kept → Lasts (opens_by with_history apps name r) kept
+    → IsNotAmong name (names_of apps) → AreSound apps kept → Lasts (opens_by with_history apps name r) kept
 opens_by_lasts apps name schema kept (Err fault) is different new h outcomes = h
 opens_by_lasts apps name schema kept (Ok plan) is different new h outcomes =
     let store = plan.after in
     let k = opened.opens_kept name schema (kept (store_key name)) plan different (h.ordered (store_key name)) is in
     let named : store.name ≡ name = opened_name name schema (kept (store_key name)) plan is in
-    asks_stays (λ (s : Stepped App) (k : Stores). IsSound s.after k) name (with_opened with_history apps name store) (stepped apps keeper_refusal) kept h.ordered h plan.batch
+    asks_stays (λ (s : Stepped (List App)) (k : Stores). AreSound s.after k) name (with_opened with_history apps name store) (stepped apps keeper_refusal) kept h.ordered h plan.batch
     (λ kept' elsewhere there ordered. record {
       ordered = ordered;
       different = subst AreDifferent (sym (map-append (λ (a : App). a.name) apps (opened_as store ∷ []))) (different_more (names_of apps) store.name h.different (subst (λ (n : List ℕ). IsNotAmong n (names_of apps)) (sym named) new));
@@ -159,12 +157,12 @@ opens_by_lasts apps name schema kept (Ok plan) is different new h outcomes =
           (subst (Keeps store) (sym (ap (λ (n : List ℕ). kept' (store_key n)) named ∙ there)) k.keeps));
     }) k.keeps.ordered outcomes
 
-opens_under_lasts : (apps : List App) (name : List ℕ) (json : Data) (kept : Stores) (r : Result SeenSchema SchemaFault) → schema_of json ≡ r → IsNotAmong name (names_of apps) → IsSound (record { apps = apps }) kept
+opens_under_lasts : (apps : List App) (name : List ℕ) (json : Data) (kept : Stores) (r : Result SeenSchema SchemaFault) → schema_of json ≡ r → IsNotAmong name (names_of apps) → AreSound apps kept
     → Lasts (opens_under with_history apps name r) kept
 opens_under_lasts apps name json kept (Err fault) is new h outcomes = h
 opens_under_lasts apps name json kept (Ok schema) is new h outcomes = by (next outcomes)
   where
-    by : (b : Bool) → IsSound (if b then follow (opens_over with_history apps name schema (Some (kept (store_key name)))) kept (after_next outcomes) else follow (opens_over with_history apps name schema None) kept (after_next outcomes)).value.after
+    by : (b : Bool) → AreSound (if b then follow (opens_over with_history apps name schema (Some (kept (store_key name)))) kept (after_next outcomes) else follow (opens_over with_history apps name schema None) kept (after_next outcomes)).value.after
         (if b then follow (opens_over with_history apps name schema (Some (kept (store_key name)))) kept (after_next outcomes) else follow (opens_over with_history apps name schema None) kept (after_next outcomes)).kept
     by true = opens_by_lasts apps name schema kept (open_plan name schema (kept (store_key name))) refl (schemas.read json schema is) new h (after_next outcomes)
     by false = h
@@ -172,7 +170,7 @@ opens_under_lasts apps name json kept (Ok schema) is new h outcomes = by (next o
 none_named : (apps : List App) (name : List ℕ) → place_of with_history name apps ≡ None → IsNotAmong name (names_of apps)
 none_named apps name none = not_among name (names_of apps) (position-map (λ (n : List ℕ). bytes_eq n name) (λ (a : App). a.name) apps ∙ none)
 
-open_lasts : (apps : List App) (name : List ℕ) (json : Data) (kept : Stores) → IsSound (record { apps = apps }) kept → Lasts (open_step with_history apps name json) kept
+open_lasts : (apps : List App) (name : List ℕ) (json : Data) (kept : Stores) → AreSound apps kept → Lasts (open_step with_history apps name json) kept
 open_lasts apps name json kept h = by_name (is_name name) (place_of with_history name apps) refl
   where
     by_name : (good : Bool) (place : Option ℕ) → place_of with_history name apps ≡ place
@@ -187,7 +185,7 @@ open_lasts apps name json kept h = by_name (is_name name) (place_of with_history
 
 -- ---- closing
 
-close_lasts : (apps : List App) (name : List ℕ) (kept : Stores) (place : Option ℕ) → IsSound (record { apps = apps }) kept → Lasts (Done (closes with_history apps name place)) kept
+close_lasts : (apps : List App) (name : List ℕ) (kept : Stores) (place : Option ℕ) → AreSound apps kept → Lasts (Done (closes with_history apps name place)) kept
 close_lasts apps name kept None h outcomes = h
 close_lasts apps name kept (Some place) h outcomes = record {
   ordered = h.ordered;
@@ -202,10 +200,10 @@ choice f true x y p q h k = h
 choice f false x y p q h k = k
 
 module _ {X Y : Type 0} (f : X → Y) where
-  abbrev ended : Followed X → Followed Y
+  abbrev pub ended : Followed X → Followed Y
   ended r = record { value = f r.value; kept = r.kept; left = r.left }
 
-  follow_end : (calls : Calls X) (kept : Stores) (outcomes : List Bool) → follow (with_end f calls) kept outcomes ≡ ended (follow calls kept outcomes)
+  pub follow_end : (calls : Calls X) (kept : Stores) (outcomes : List Bool) → follow (with_end f calls) kept outcomes ≡ ended (follow calls kept outcomes)
   follow_end (Done x) kept outcomes = refl
   follow_end (Load name does) kept outcomes =
       choice ended (next outcomes) _ _ _ _ (follow_end (does (Some (kept name))) kept (after_next outcomes)) (follow_end (does None) kept (after_next outcomes))
@@ -219,8 +217,8 @@ record Stays (app : App) (kept : Stores) (t : Told App) (kept' : Stores) : Type 
   pub ordered : (other : List ℕ) → is_in_order (kept' other) ≡ true
   pub sound : IsSoundApp t.app (kept' (store_key t.app.name))
 
-module _ (apps : List App) (name : List ℕ) (kept : Stores) (h : IsSound (record { apps = apps }) kept) where
-  put_sound : (place : ℕ) (app : App) (t : Told App) (kept' : Stores) → slice_get apps place ≡ Some app → Stays app kept t kept' → IsSound (put_back apps place t).after kept'
+module _ (apps : List App) (name : List ℕ) (kept : Stores) (h : AreSound apps kept) where
+  put_sound : (place : ℕ) (app : App) (t : Told App) (kept' : Stores) → slice_get apps place ≡ Some app → Stays app kept t kept' → AreSound (put_back apps place t).after kept'
   put_sound place app t kept' here s = record {
     ordered = s.ordered;
     different = subst AreDifferent (sym (map-set_same (λ (a : App). a.name) apps place t.app app (s.name ∙ sym (ap (λ (a : App). a.name) (get_or_from_slice_get apps place app app here))))) h.different;
@@ -234,10 +232,10 @@ module _ (apps : List App) (name : List ℕ) (kept : Stores) (h : IsSound (recor
       by_found : (place : ℕ) (found : Option App) → slice_get apps place ≡ found → Lasts (on_found with_history apps name does place found) kept
       by_found place None here outcomes = h
       by_found place (Some app) here outcomes =
-          subst (λ (r : Followed (Stepped App)). IsSound r.value.after r.kept) (sym (follow_end (put_back apps place) (does app) kept outcomes))
+          subst (λ (r : Followed (Stepped (List App))). AreSound r.value.after r.kept) (sym (follow_end (put_back apps place) (does app) kept outcomes))
           (by_end place app here outcomes)
         where
-          by_end : (place : ℕ) (app : App) → slice_get apps place ≡ Some app → (outcomes : List Bool) → IsSound (ended (put_back apps place) (follow (does app) kept outcomes)).value.after (ended (put_back apps place) (follow (does app) kept outcomes)).kept
+          by_end : (place : ℕ) (app : App) → slice_get apps place ≡ Some app → (outcomes : List Bool) → AreSound (ended (put_back apps place) (follow (does app) kept outcomes)).value.after (ended (put_back apps place) (follow (does app) kept outcomes)).kept
           by_end place app here outcomes = put_sound place app (follow (does app) kept outcomes).value (follow (does app) kept outcomes).kept here (stays app (sound_at apps place app kept here h.apps) outcomes)
 
       by_place : (place : Option ℕ) → Lasts (on_place with_history apps name does place) kept
@@ -366,41 +364,33 @@ module _ (name : List ℕ) (app : App) (kept : Stores) (ordered : (other : List 
       by true (Some place) = by_found place (slice_get app.observers place)
       by false place = stays_so _
 
--- ---- a line, and all lines
+-- ---- a line
 
-step_lasts : (m : State App) (line : SeenLine) (kept : Stores) → IsSound m kept → Lasts (step m line) kept
-unfolding step
-step_lasts m (lines.Open name schema) kept h = open_lasts m.apps name schema kept h
-step_lasts m (lines.Close name) kept h = close_lasts m.apps name kept (place_of with_history name m.apps) h
-step_lasts m (lines.Enter name writer) kept h =
-    app_lasts m.apps name kept h (λ app. Done (enter_app with_history name writer app)) (λ app s outcomes. enter_stays name app kept h.ordered s writer)
-step_lasts m (lines.Nest name writer) kept h =
-    app_lasts m.apps name kept h (λ app. Done (nest_app with_history name writer app)) (λ app s outcomes. nest_stays name app kept h.ordered s writer)
-step_lasts m (lines.Leave name writer) kept h =
-    app_lasts m.apps name kept h (λ app. Done (leave_app with_history name writer app)) (λ app s outcomes. leave_stays name app kept h.ordered s writer)
-step_lasts m (lines.Write name ops writer) kept h =
-    app_lasts m.apps name kept h (write_app with_history name ops writer) (λ app s outcomes. unless_stays name app kept h.ordered s ops (write_fault writer app.queue) outcomes)
-step_lasts m (lines.Fetch name table query) kept h =
-    app_lasts m.apps name kept h (looks with_history (fetched name table query)) (λ app s outcomes. stays_so name app kept h.ordered s (fetched name table query (store_of app)))
-step_lasts m (lines.Rows name table) kept h =
-    app_lasts m.apps name kept h (looks with_history (rows_shown name table)) (λ app s outcomes. stays_so name app kept h.ordered s (rows_shown name table (store_of app)))
-step_lasts m (lines.Observe name observer table query shape) kept h =
-    app_lasts m.apps name kept h (λ app. Done (observe_app with_history name observer table query shape app)) (λ app s outcomes. observe_stays name app kept h.ordered s observer table query shape)
-step_lasts m (lines.Watch name observer table id to) kept h =
-    app_lasts m.apps name kept h (λ app. Done (watch_app with_history name observer table id to app)) (λ app s outcomes. watch_stays name app kept h.ordered s observer table id to)
-step_lasts m (lines.Turn name observer) kept h = app_lasts m.apps name kept h (λ app. Done (turn_app name observer app)) (λ app s outcomes. turn_stays name app kept h.ordered s observer)
-step_lasts m (lines.Drop name observer) kept h = app_lasts m.apps name kept h (λ app. Done (drop_app with_history name observer app)) (λ app s outcomes. drop_stays name app kept h.ordered s observer)
-step_lasts m (lines.Parent name table id to) kept h =
-    app_lasts m.apps name kept h (looks with_history (parent_shown name table id to)) (λ app s outcomes. stays_so name app kept h.ordered s (parent_shown name table id to (store_of app)))
-step_lasts m (lines.Children name table id to) kept h =
-    app_lasts m.apps name kept h (looks with_history (children_shown name table id to)) (λ app s outcomes. stays_so name app kept h.ordered s (children_shown name table id to (store_of app)))
-
-lines_last : (forms : List SeenLine) (m : State App) (kept : Stores) (outcomes : List Bool) → IsSound m kept → IsSound (run_from m kept forms outcomes).after (run_from m kept forms outcomes).kept
-lines_last [] m kept outcomes h = h
-lines_last (line ∷ more) m kept outcomes h =
-    let done = follow (step m line) kept outcomes in
-    lines_last more done.value.after done.kept done.left (step_lasts m line kept h outcomes)
-
-pub runs_are_sound : RunsAreSound
-unfolding run
-runs_are_sound script kept outcomes ordered = lines_last (forms_in script) none_open kept outcomes (record { ordered = ordered; different = tt; apps = tt })
+pub app_step_lasts : (apps : List App) (line : SeenLine) (kept : Stores) → AreSound apps kept → Lasts (app_step apps line) kept
+unfolding app_step
+app_step_lasts apps (lines.Open name schema) kept h = open_lasts apps name schema kept h
+app_step_lasts apps (lines.Close name) kept h = close_lasts apps name kept (place_of with_history name apps) h
+app_step_lasts apps (lines.Enter name writer) kept h =
+    app_lasts apps name kept h (λ app. Done (enter_app with_history name writer app)) (λ app s outcomes. enter_stays name app kept h.ordered s writer)
+app_step_lasts apps (lines.Nest name writer) kept h =
+    app_lasts apps name kept h (λ app. Done (nest_app with_history name writer app)) (λ app s outcomes. nest_stays name app kept h.ordered s writer)
+app_step_lasts apps (lines.Leave name writer) kept h =
+    app_lasts apps name kept h (λ app. Done (leave_app with_history name writer app)) (λ app s outcomes. leave_stays name app kept h.ordered s writer)
+app_step_lasts apps (lines.Write name ops writer) kept h =
+    app_lasts apps name kept h (write_app with_history name ops writer) (λ app s outcomes. unless_stays name app kept h.ordered s ops (write_fault writer app.queue) outcomes)
+app_step_lasts apps (lines.Fetch name table query) kept h =
+    app_lasts apps name kept h (looks with_history (fetched name table query)) (λ app s outcomes. stays_so name app kept h.ordered s (fetched name table query (store_of app)))
+app_step_lasts apps (lines.Rows name table) kept h =
+    app_lasts apps name kept h (looks with_history (rows_shown name table)) (λ app s outcomes. stays_so name app kept h.ordered s (rows_shown name table (store_of app)))
+app_step_lasts apps (lines.Observe name observer table query shape) kept h =
+    app_lasts apps name kept h (λ app. Done (observe_app with_history name observer table query shape app)) (λ app s outcomes. observe_stays name app kept h.ordered s observer table query shape)
+app_step_lasts apps (lines.Watch name observer table id to) kept h =
+    app_lasts apps name kept h (λ app. Done (watch_app with_history name observer table id to app)) (λ app s outcomes. watch_stays name app kept h.ordered s observer table id to)
+app_step_lasts apps (lines.Turn name observer) kept h = app_lasts apps name kept h (λ app. Done (turn_app name observer app)) (λ app s outcomes. turn_stays name app kept h.ordered s observer)
+app_step_lasts apps (lines.Drop name observer) kept h = app_lasts apps name kept h (λ app. Done (drop_app with_history name observer app)) (λ app s outcomes. drop_stays name app kept h.ordered s observer)
+app_step_lasts apps (lines.Parent name table id to) kept h =
+    app_lasts apps name kept h (looks with_history (parent_shown name table id to)) (λ app s outcomes. stays_so name app kept h.ordered s (parent_shown name table id to (store_of app)))
+app_step_lasts apps (lines.Children name table id to) kept h =
+    app_lasts apps name kept h (looks with_history (children_shown name table id to)) (λ app s outcomes. stays_so name app kept h.ordered s (children_shown name table id to (store_of app)))
+app_step_lasts apps (lines.Backend schema) kept h = λ outcomes. h
+app_step_lasts apps (lines.Server table) kept h = λ outcomes. h

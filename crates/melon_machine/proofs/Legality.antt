@@ -1,9 +1,9 @@
--- Each step leaves legal histories, over whatever is loaded in order.
-use Rattle.std.proofs.Common.{◌≡◌, ℕ, ◌+◌, ◌≤◌, le_refl, zero, suc, List, [], ◌∷◌, ◌++◌, length, length-append, set, Bool, true, false, refl, ap, sym, ◌∙◌, subst, arith}
-use Rattle.std.specs.Prelude.{Option, Some, None, Result, Ok, Err, slice_get, nat_le, not, is_some, if◌then◌else◌}
+-- Each line of an app leaves legal histories, over whatever is loaded in order.
+use Rattle.std.proofs.Common.{◌≡◌, ℕ, ◌≤◌, le_refl, zero, suc, List, [], ◌∷◌, ◌++◌, length, length-append, set, Bool, true, false, refl, ap, sym, subst, arith}
+use Rattle.std.specs.Prelude.{Option, Some, None, Result, Ok, Err, slice_get, if◌then◌else◌}
 use Rattle.std.specs.List.{remove, AllByRecursion}
 use Rattle.serde_json.specs.Data.{Data}
-use Rattle.melon_schema.specs.Names.{is_name, is_id}
+use Rattle.melon_schema.specs.Names.{is_id}
 use Rattle.melon_schema.specs.Places.{table_named}
 use Rattle.melon_schema.specs.Schema.{schema_of}
 use Rattle.melon_schema.specs.Seen.{SeenSchema}
@@ -14,7 +14,6 @@ use Rattle.melon_outside.specs.declared.kept.Kept.{Kept}
 use Rattle.melon_outside.specs.declared.kept.KeptBatch.{KeptBatch}
 use Rattle.melon_outside.specs.declared.kept.OpenFault.{OpenFault}
 use Rattle.melon_raw.specs.Rows.{table_at}
-use Rattle.melon_change.specs.declared.history.Entry.{Entry}
 use Rattle.melon_change.specs.declared.op.Op.{Op}
 use Rattle.melon_change.specs.declared.op.OpsFault.{OpsFault}
 use Rattle.melon_change.specs.Forms.{ops_of}
@@ -43,8 +42,9 @@ use Rattle.melon_script.specs.declared.line.LineShape.{LineShape}
 use Rattle.melon_script.specs.declared.item.Item.{Item}
 use Rattle.melon_machine.specs.Calls.{Calls, Done, Load, Commit, asks, with_end, Follows}
 use Rattle.melon_machine.specs.Legal.{IsLegalApp, AreLegal}
-use Rattle.melon_machine.specs.State.{App, Observer, State, Watch, Answer, Owner, named, store_of, opened_as, grown_to, queued_to, observed_by, watched_now, unwatched, with_history}
-use Rattle.melon_machine.specs.Step.{Stepped, stepped, Told, told, put_back, place_of, opens_by, opens_over, opens_under, open_fault, opens_unless, open_step, closes, on_found, on_place, on_app, writes_by, writes, write_fault, writes_unless, write_app, entered_as, enter_app, nested_as, nest_app, left_as, leave_app, fetched, rows_shown, parent_shown, children_shown, place_in, taken_fault, shape_in, unless_told, with_place, with_table, watches, observes_as, observes, observe_app, watches_by, watches_id, watch_app, drops, drop_app, turned, turns_of, turns_at, turn_app, looks, step}
+use Rattle.melon_machine.specs.State.{App, Observer, Watch, Answer, Owner, named, store_of, opened_as, grown_to, queued_to, observed_by, with_history}
+use Rattle.melon_machine.specs.Outcomes.{Stepped}
+use Rattle.melon_machine.specs.Apps.{Told, told, put_back, place_of, opens_by, opens_under, open_fault, opens_unless, closes, on_found, on_place, on_app, writes_by, writes, write_fault, writes_unless, write_app, entered_as, enter_app, nested_as, nest_app, left_as, leave_app, fetched, rows_shown, parent_shown, children_shown, place_in, taken_fault, shape_in, unless_told, with_place, watches, observes_as, observes, observe_app, watches_by, watch_app, drops, drop_app, turned, turns_of, turns_at, turn_app, looks, app_step}
 use Rattle.melon_machine.specs.Refusals.{id_refusal, writer_refusal, observer_refusal}
 use Rattle.melon_machine.proofs.Grown.{grows_written, longer_written, none_opened}
 use Rattle.melon_machine.proofs.Simulated.{opened_store, legal_at}
@@ -66,19 +66,19 @@ always_follows P (Commit name batch does) was [] x now a f = absurd f
 always_follows P (Commit name batch does) was (true ∷ used) x now a f = always_follows P (does true) _ used x now a.0 f
 always_follows P (Commit name batch does) was (false ∷ used) x now a f = always_follows P (does false) was used x now a.1 f
 
-always_end : {X Y : Type 0} (P : X → Type 0) (Q : Y → Type 0) (f : X → Y) → ((x : X) → P x → Q (f x)) → (calls : Calls X) → Always P calls → Always Q (with_end f calls)
+pub always_end : {X Y : Type 0} (P : X → Type 0) (Q : Y → Type 0) (f : X → Y) → ((x : X) → P x → Q (f x)) → (calls : Calls X) → Always P calls → Always Q (with_end f calls)
 always_end P Q f h (Done x) a = h x a
 always_end P Q f h (Load name does) a = (λ kept ordered. always_end P Q f h (does (Some kept)) (a.0 kept ordered), always_end P Q f h (does None) a.1)
 always_end P Q f h (Commit name batch does) a = (always_end P Q f h (does true) a.0, always_end P Q f h (does false) a.1)
 
-always_asked : {X : Type 0} (P : X → Type 0) (name : List ℕ) (batch : Option KeptBatch) (done failed : X) → P done → P failed → Always P (asks name batch done failed)
+pub always_asked : {X : Type 0} (P : X → Type 0) (name : List ℕ) (batch : Option KeptBatch) (done failed : X) → P done → P failed → Always P (asks name batch done failed)
 always_asked P name None done failed h k = h
 always_asked P name (Some batch) done failed h k = (h, k)
 
 -- ---- apps
 
-abbrev StepsLegal : Calls (Stepped App) → Type 0
-StepsLegal calls = Always (λ s. AreLegal s.after.apps) calls
+abbrev pub AppsLegal : Calls (Stepped (List App)) → Type 0
+AppsLegal calls = Always (λ s. AreLegal s.after) calls
 
 legal_more : (apps : List App) (app : App) → AreLegal apps → IsLegalApp app → AreLegal (apps ++ app ∷ [])
 legal_more [] app h k = (k, tt)
@@ -110,20 +110,20 @@ opened_legal name schema kept plan different ordered is =
       within = tt;
     }
 
-opens_by_legal : (apps : List App) (name : List ℕ) (r : Result Plan OpenFault) → ((plan : Plan) → r ≡ Ok plan → IsLegalApp (opened_as plan.after)) → AreLegal apps → StepsLegal (opens_by with_history apps name r)
+opens_by_legal : (apps : List App) (name : List ℕ) (r : Result Plan OpenFault) → ((plan : Plan) → r ≡ Ok plan → IsLegalApp (opened_as plan.after)) → AreLegal apps → AppsLegal (opens_by with_history apps name r)
 opens_by_legal apps name (Err fault) new h = h
-opens_by_legal apps name (Ok plan) new h = always_asked (λ s. AreLegal s.after.apps) (store_key name) plan.batch _ _ (legal_more apps (opened_as plan.after) h (new plan refl)) h
+opens_by_legal apps name (Ok plan) new h = always_asked (λ s. AreLegal s.after) (store_key name) plan.batch _ _ (legal_more apps (opened_as plan.after) h (new plan refl)) h
 
-opens_under_legal : (apps : List App) (name : List ℕ) (json : Data) (r : Result SeenSchema SchemaFault) → schema_of json ≡ r → AreLegal apps → StepsLegal (opens_under with_history apps name r)
+opens_under_legal : (apps : List App) (name : List ℕ) (json : Data) (r : Result SeenSchema SchemaFault) → schema_of json ≡ r → AreLegal apps → AppsLegal (opens_under with_history apps name r)
 opens_under_legal apps name json (Err fault) is h = h
 opens_under_legal apps name json (Ok schema) is h =
     (λ kept ordered. opens_by_legal apps name (open_plan name schema kept) (λ plan opens. opened_legal name schema kept plan (schemas.read json schema is) ordered opens) h, h)
 
-open_legal : (apps : List App) (name : List ℕ) (json : Data) (fault : Option ℕ) → AreLegal apps → StepsLegal (opens_unless with_history apps name json fault)
+open_legal : (apps : List App) (name : List ℕ) (json : Data) (fault : Option ℕ) → AreLegal apps → AppsLegal (opens_unless with_history apps name json fault)
 open_legal apps name json (Some number) h = h
 open_legal apps name json None h = opens_under_legal apps name json (schema_of json) refl h
 
-close_legal : (apps : List App) (name : List ℕ) (place : Option ℕ) → AreLegal apps → AreLegal (closes with_history apps name place).after.apps
+close_legal : (apps : List App) (name : List ℕ) (place : Option ℕ) → AreLegal apps → AreLegal (closes with_history apps name place).after
 close_legal apps name None h = h
 close_legal apps name (Some place) h = legal_less apps place h
 
@@ -133,16 +133,16 @@ abbrev TellsLegal : Calls (Told App) → Type 0
 TellsLegal calls = Always (λ t. IsLegalApp t.app) calls
 
 module _ (apps : List App) (name : List ℕ) (h : AreLegal apps) (does : App → Calls (Told App)) (stays : (app : App) → IsLegalApp app → TellsLegal (does app)) where
-  found_legal : (place : ℕ) (found : Option App) → slice_get apps place ≡ found → StepsLegal (on_found with_history apps name does place found)
+  found_legal : (place : ℕ) (found : Option App) → slice_get apps place ≡ found → AppsLegal (on_found with_history apps name does place found)
   found_legal place None here = h
   found_legal place (Some app) here =
-      always_end (λ t. IsLegalApp t.app) (λ s. AreLegal s.after.apps) (put_back apps place) (λ t k. legal_set apps place t.app h k) (does app) (stays app (legal_at apps place app here h))
+      always_end (λ t. IsLegalApp t.app) (λ s. AreLegal s.after) (put_back apps place) (λ t k. legal_set apps place t.app h k) (does app) (stays app (legal_at apps place app here h))
 
-  place_legal : (place : Option ℕ) → StepsLegal (on_place with_history apps name does place)
+  place_legal : (place : Option ℕ) → AppsLegal (on_place with_history apps name does place)
   place_legal None = h
   place_legal (Some place) = found_legal place (slice_get apps place) refl
 
-  app_legal : StepsLegal (on_app with_history apps name does)
+  app_legal : AppsLegal (on_app with_history apps name does)
   app_legal = place_legal (place_of with_history name apps)
 
 module _ (app : App) (h : IsLegalApp app) where
@@ -275,26 +275,28 @@ module _ (app : App) (h : IsLegalApp app) where
 
 -- ---- a line
 
-pub step_legal : (m : State App) (line : SeenLine) → AreLegal m.apps → StepsLegal (step m line)
-unfolding step
-step_legal m (lines.Open name schema) h = open_legal m.apps name schema (open_fault with_history m.apps name) h
-step_legal m (lines.Close name) h = close_legal m.apps name (place_of with_history name m.apps) h
-step_legal m (lines.Enter name writer) h =
-    app_legal m.apps name h (λ app. Done (enter_app with_history name writer app)) (λ app k. enter_legal app k name writer (is_id writer) (entered writer app.queue))
-step_legal m (lines.Nest name writer) h =
-    app_legal m.apps name h (λ app. Done (nest_app with_history name writer app)) (λ app k. nest_legal app k name writer (is_id writer) (nested writer app.queue))
-step_legal m (lines.Leave name writer) h =
-    app_legal m.apps name h (λ app. Done (leave_app with_history name writer app)) (λ app k. leave_legal app k name writer (is_id writer))
-step_legal m (lines.Write name ops writer) h = app_legal m.apps name h (write_app with_history name ops writer) (λ app k. write_legal app k name ops (write_fault writer app.queue))
-step_legal m (lines.Fetch name table query) h = app_legal m.apps name h (looks with_history (fetched name table query)) (λ app k. k)
-step_legal m (lines.Rows name table) h = app_legal m.apps name h (looks with_history (rows_shown name table)) (λ app k. k)
-step_legal m (lines.Observe name observer table query shape) h =
-    app_legal m.apps name h (λ app. Done (observe_app with_history name observer table query shape app)) (λ app k. observe_legal app k name observer table query shape)
-step_legal m (lines.Watch name observer table id to) h =
-    app_legal m.apps name h (λ app. Done (watch_app with_history name observer table id to app)) (λ app k. watch_legal app k name observer table id to)
-step_legal m (lines.Turn name observer) h =
-    app_legal m.apps name h (λ app. Done (turn_app name observer app)) (λ app k. turn_legal app k name observer (is_id observer) (place_in observer (with_history.observers app)))
-step_legal m (lines.Drop name observer) h =
-    app_legal m.apps name h (λ app. Done (drop_app with_history name observer app)) (λ app k. drops_legal app k name observer (is_id observer) (place_in observer (with_history.observers app)))
-step_legal m (lines.Parent name table id to) h = app_legal m.apps name h (looks with_history (parent_shown name table id to)) (λ app k. k)
-step_legal m (lines.Children name table id to) h = app_legal m.apps name h (looks with_history (children_shown name table id to)) (λ app k. k)
+pub app_step_legal : (apps : List App) (line : SeenLine) → AreLegal apps → AppsLegal (app_step apps line)
+unfolding app_step
+app_step_legal apps (lines.Open name schema) h = open_legal apps name schema (open_fault with_history apps name) h
+app_step_legal apps (lines.Close name) h = close_legal apps name (place_of with_history name apps) h
+app_step_legal apps (lines.Enter name writer) h =
+    app_legal apps name h (λ app. Done (enter_app with_history name writer app)) (λ app k. enter_legal app k name writer (is_id writer) (entered writer app.queue))
+app_step_legal apps (lines.Nest name writer) h =
+    app_legal apps name h (λ app. Done (nest_app with_history name writer app)) (λ app k. nest_legal app k name writer (is_id writer) (nested writer app.queue))
+app_step_legal apps (lines.Leave name writer) h =
+    app_legal apps name h (λ app. Done (leave_app with_history name writer app)) (λ app k. leave_legal app k name writer (is_id writer))
+app_step_legal apps (lines.Write name ops writer) h = app_legal apps name h (write_app with_history name ops writer) (λ app k. write_legal app k name ops (write_fault writer app.queue))
+app_step_legal apps (lines.Fetch name table query) h = app_legal apps name h (looks with_history (fetched name table query)) (λ app k. k)
+app_step_legal apps (lines.Rows name table) h = app_legal apps name h (looks with_history (rows_shown name table)) (λ app k. k)
+app_step_legal apps (lines.Observe name observer table query shape) h =
+    app_legal apps name h (λ app. Done (observe_app with_history name observer table query shape app)) (λ app k. observe_legal app k name observer table query shape)
+app_step_legal apps (lines.Watch name observer table id to) h =
+    app_legal apps name h (λ app. Done (watch_app with_history name observer table id to app)) (λ app k. watch_legal app k name observer table id to)
+app_step_legal apps (lines.Turn name observer) h =
+    app_legal apps name h (λ app. Done (turn_app name observer app)) (λ app k. turn_legal app k name observer (is_id observer) (place_in observer (with_history.observers app)))
+app_step_legal apps (lines.Drop name observer) h =
+    app_legal apps name h (λ app. Done (drop_app with_history name observer app)) (λ app k. drops_legal app k name observer (is_id observer) (place_in observer (with_history.observers app)))
+app_step_legal apps (lines.Parent name table id to) h = app_legal apps name h (looks with_history (parent_shown name table id to)) (λ app k. k)
+app_step_legal apps (lines.Children name table id to) h = app_legal apps name h (looks with_history (children_shown name table id to)) (λ app k. k)
+app_step_legal apps (lines.Backend schema) h = h
+app_step_legal apps (lines.Server table) h = h

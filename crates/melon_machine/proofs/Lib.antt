@@ -2,6 +2,9 @@ pub mod Followed
 pub mod Grown
 pub mod Simulated
 pub mod Legality
-pub mod Ran
 pub mod Names
 pub mod Lasting
+pub mod Served
+pub mod Whole
+pub mod Ran
+pub mod Lasted

@@ -1,7 +1,7 @@
--- A machine whose apps have their histories steps as one that has their stores alone.
+-- Apps with their histories step as those that have their stores alone.
 use Rattle.std.proofs.Common.{◌≡◌, ℕ, zero, suc, ◌≤◌, le_refl, List, [], ◌∷◌, ◌++◌, map, length, take_all, Bool, true, false, bytes_eq, refl, ap, sym, ◌∙◌, subst, arith}
-use Rattle.std.specs.Prelude.{Option, Some, None, option_map, Result, Ok, Err, position, slice_get, set, nat_le, not, is_some, if◌then◌else◌}
-use Rattle.std.specs.List.{remove, AllByRecursion}
+use Rattle.std.specs.Prelude.{Option, Some, None, option_map, Result, Ok, Err, slice_get, nat_le, not, is_some, if◌then◌else◌}
+use Rattle.std.specs.List.{AllByRecursion}
 use Rattle.std.proofs.lemmas.List.{map-set, map-append, length-map}
 use Rattle.std.proofs.lemmas.Option.{slice_get-map}
 use Rattle.indexmap.proofs.SetLemmas.{map-remove}
@@ -46,21 +46,20 @@ use Rattle.melon_relation.proofs.Histories.{grown_parents}
 use Rattle.melon_script.specs.declared.line.LineShape.{LineShape}
 use Rattle.melon_machine.specs.Legal.{IsLegalApp, AreLegal}
 use Rattle.melon_machine.specs.Showing.{opening_item}
-use Rattle.melon_machine.specs.State.{Watch, Answer, Owner, Observer, named, App, history_of, store_of, no_writers, opened_as, grown_to, watched_now, KeptWatch, Answers, Owns, KeptObserver, kept_observer, KeptApp, kept_app, kept_now, kept_at, observer_kept, app_kept, watched_on, Kind, with_history, as_kept, State, kept_of}
-use Rattle.melon_machine.specs.Refusals.{app_refusal, schema_refusal, table_refusal, keeper_refusal, open_refusal, ops_refusal, write_refusal}
-use Rattle.melon_machine.specs.Step.{Stepped, stepped, Told, told, put_back, place_of, says, row_count, with_opened, opens_by, opens_over, opens_under, open_fault, opens_unless, open_step, closes, close_step, on_found, on_place, on_app, writes_by, writes, write_fault, writes_unless, write_app, entered_as, enter_app, nested_as, nest_app, leave_app, fetched, rows_shown, parent_shown, children_shown, place_in, taken_fault, shape_in, unless_told, opens_observer, with_place, with_table, watches, observes_as, observes, observe_app, watches_by, watches_id, watch_app, drops, drop_app, looks, step, kept_told, kept_step, kept_calls, is_turn, plain_step}
+use Rattle.melon_machine.specs.State.{Watch, Answer, Owner, Observer, named, App, history_of, store_of, no_writers, opened_as, grown_to, watched_now, Answers, Owns, KeptObserver, kept_observer, KeptApp, kept_app, kept_now, kept_at, observer_kept, app_kept, apps_kept, watched_on, with_history, as_kept}
+use Rattle.melon_machine.specs.Refusals.{keeper_refusal}
+use Rattle.melon_machine.specs.Outcomes.{Stepped, stepped}
+use Rattle.melon_machine.specs.Step.{is_turn}
+use Rattle.melon_machine.specs.Apps.{Told, told, put_back, place_of, row_count, with_opened, opens_by, opens_over, opens_under, open_fault, opens_unless, open_step, closes, close_step, on_found, on_place, on_app, writes_by, writes, write_fault, writes_unless, write_app, entered_as, enter_app, nested_as, nest_app, leave_app, fetched, rows_shown, parent_shown, children_shown, place_in, taken_fault, shape_in, unless_told, opens_observer, with_place, watches, observes_as, observes, observe_app, watches_by, watch_app, drops, drop_app, looks, app_step, kept_told, kept_apps, plain_app_step}
 use Rattle.melon_machine.proofs.Followed.{asks_end}
 use Rattle.melon_machine.proofs.Grown.{grows_written, longer_written, none_opened}
 
-abbrev pub stores : List App → List KeptApp
-stores apps = map app_kept apps
-
-end_twice : {X Y Z : Type 0} (f : Y → Z) (g : X → Y) (calls : Calls X) → with_end f (with_end g calls) ≡ with_end (λ x. f (g x)) calls
+pub end_twice : {X Y Z : Type 0} (f : Y → Z) (g : X → Y) (calls : Calls X) → with_end f (with_end g calls) ≡ with_end (λ x. f (g x)) calls
 end_twice f g (Done x) = refl
 end_twice f g (Load name does) = λ i. Load name (λ kept. end_twice f g (does kept) i)
 end_twice f g (Commit name batch does) = λ i. Commit name batch (λ ok. end_twice f g (does ok) i)
 
-pub place_same : (name : List ℕ) (apps : List App) → place_of as_kept name (stores apps) ≡ place_of with_history name apps
+pub place_same : (name : List ℕ) (apps : List App) → place_of as_kept name (apps_kept apps) ≡ place_of with_history name apps
 place_same name apps = position-map (λ (a : KeptApp). bytes_eq a.store.name name) app_kept apps
 
 -- ---- opening
@@ -69,40 +68,40 @@ place_same name apps = position-map (λ (a : KeptApp). bytes_eq a.store.name nam
 pub opened_store : (store : SeenStore) → store.entries ≡ [] → store ≡ store_of (opened_as store)
 opened_store store none = λ i. record { name = store.name; schema = store.schema; rows = store.rows; entries = none i; last = store.last }
 
-opened_same : (apps : List App) (name : List ℕ) (store : SeenStore) → store.entries ≡ [] → with_opened as_kept (stores apps) name store ≡ kept_step (with_opened with_history apps name store)
+opened_same : (apps : List App) (name : List ℕ) (store : SeenStore) → store.entries ≡ [] → with_opened as_kept (apps_kept apps) name store ≡ kept_apps (with_opened with_history apps name store)
 opened_same apps name store none =
-    λ i. stepped ((ap (λ (s : SeenStore). stores apps ++ kept_app s no_writers [] ∷ []) (opened_store store none) ∙ sym (map-append app_kept apps (opened_as store ∷ []))) i) (items.Open name (row_count store.rows) store.last)
+    λ i. stepped ((ap (λ (s : SeenStore). apps_kept apps ++ kept_app s no_writers [] ∷ []) (opened_store store none) ∙ sym (map-append app_kept apps (opened_as store ∷ []))) i) (items.Open name (row_count store.rows) store.last)
 
-opens_by_same : (apps : List App) (name : List ℕ) (r : Result Plan OpenFault) → ((plan : Plan) → r ≡ Ok plan → plan.after.entries ≡ []) → opens_by as_kept (stores apps) name r ≡ kept_calls (opens_by with_history apps name r)
+opens_by_same : (apps : List App) (name : List ℕ) (r : Result Plan OpenFault) → ((plan : Plan) → r ≡ Ok plan → plan.after.entries ≡ []) → opens_by as_kept (apps_kept apps) name r ≡ with_end kept_apps (opens_by with_history apps name r)
 opens_by_same apps name (Ok plan) none =
-    ap (λ done. asks (store_key name) plan.batch done (stepped (stores apps) keeper_refusal)) (opened_same apps name plan.after (none plan refl))
-    ∙ asks_end kept_step (store_key name) plan.batch (with_opened with_history apps name plan.after) (stepped apps keeper_refusal)
+    ap (λ done. asks (store_key name) plan.batch done (stepped (apps_kept apps) keeper_refusal)) (opened_same apps name plan.after (none plan refl))
+    ∙ asks_end kept_apps (store_key name) plan.batch (with_opened with_history apps name plan.after) (stepped apps keeper_refusal)
 opens_by_same apps name (Err fault) none = refl
 
-opens_over_same : (apps : List App) (name : List ℕ) (schema : SeenSchema) (kept : Option Kept) → opens_over as_kept (stores apps) name schema kept ≡ kept_calls (opens_over with_history apps name schema kept)
+opens_over_same : (apps : List App) (name : List ℕ) (schema : SeenSchema) (kept : Option Kept) → opens_over as_kept (apps_kept apps) name schema kept ≡ with_end kept_apps (opens_over with_history apps name schema kept)
 opens_over_same apps name schema None = refl
 opens_over_same apps name schema (Some kept) = opens_by_same apps name (open_plan name schema kept) (none_opened name schema kept)
 
-opens_under_same : (apps : List App) (name : List ℕ) (r : Result SeenSchema SchemaFault) → opens_under as_kept (stores apps) name r ≡ kept_calls (opens_under with_history apps name r)
+opens_under_same : (apps : List App) (name : List ℕ) (r : Result SeenSchema SchemaFault) → opens_under as_kept (apps_kept apps) name r ≡ with_end kept_apps (opens_under with_history apps name r)
 opens_under_same apps name (Err fault) = refl
 opens_under_same apps name (Ok schema) = λ i. Load (store_key name) (λ kept. opens_over_same apps name schema kept i)
 
-open_fault_same : (apps : List App) (name : List ℕ) → open_fault as_kept (stores apps) name ≡ open_fault with_history apps name
+open_fault_same : (apps : List App) (name : List ℕ) → open_fault as_kept (apps_kept apps) name ≡ open_fault with_history apps name
 open_fault_same apps name =
-    ap (λ p. if not (is_name name) then Some 4 else (if is_some p then Some 1 else (if nat_le 4 (length (stores apps)) then Some 3 else None))) (place_same name apps)
+    ap (λ p. if not (is_name name) then Some 4 else (if is_some p then Some 1 else (if nat_le 4 (length (apps_kept apps)) then Some 3 else None))) (place_same name apps)
     ∙ ap (λ n. if not (is_name name) then Some 4 else (if is_some (place_of with_history name apps) then Some 1 else (if nat_le 4 n then Some 3 else None))) (length-map apps app_kept)
 
-open_same : (apps : List App) (name : List ℕ) (json : Data) → open_step as_kept (stores apps) name json ≡ kept_calls (open_step with_history apps name json)
-open_same apps name json = ap (opens_unless as_kept (stores apps) name json) (open_fault_same apps name) ∙ by_fault (open_fault with_history apps name)
+open_same : (apps : List App) (name : List ℕ) (json : Data) → open_step as_kept (apps_kept apps) name json ≡ with_end kept_apps (open_step with_history apps name json)
+open_same apps name json = ap (opens_unless as_kept (apps_kept apps) name json) (open_fault_same apps name) ∙ by_fault (open_fault with_history apps name)
   where
-    by_fault : (fault : Option ℕ) → opens_unless as_kept (stores apps) name json fault ≡ kept_calls (opens_unless with_history apps name json fault)
+    by_fault : (fault : Option ℕ) → opens_unless as_kept (apps_kept apps) name json fault ≡ with_end kept_apps (opens_unless with_history apps name json fault)
     by_fault (Some number) = refl
     by_fault None = opens_under_same apps name (schema_of json)
 
-close_same : (apps : List App) (name : List ℕ) → close_step as_kept (stores apps) name ≡ kept_step (close_step with_history apps name)
-close_same apps name = ap (closes as_kept (stores apps) name) (place_same name apps) ∙ by_place (place_of with_history name apps)
+close_same : (apps : List App) (name : List ℕ) → close_step as_kept (apps_kept apps) name ≡ kept_apps (close_step with_history apps name)
+close_same apps name = ap (closes as_kept (apps_kept apps) name) (place_same name apps) ∙ by_place (place_of with_history name apps)
   where
-    by_place : (place : Option ℕ) → closes as_kept (stores apps) name place ≡ kept_step (closes with_history apps name place)
+    by_place : (place : Option ℕ) → closes as_kept (apps_kept apps) name place ≡ kept_apps (closes with_history apps name place)
     by_place None = refl
     by_place (Some place) = λ i. stepped (sym (map-remove app_kept apps place) i) (items.Close name)
 
@@ -110,23 +109,23 @@ close_same apps name = ap (closes as_kept (stores apps) name) (place_same name a
 
 module _ (apps : List App) (name : List ℕ) (kept : KeptApp → Calls (Told KeptApp)) (does : App → Calls (Told App))
     (same : (place : ℕ) (app : App) → slice_get apps place ≡ Some app → kept (app_kept app) ≡ with_end kept_told (does app)) where
-  put_back_same : (place : ℕ) → ◌≡◌ {A = Told App → Stepped KeptApp} (λ t. put_back (stores apps) place (kept_told t)) (λ t. kept_step (put_back apps place t))
-  put_back_same place = λ i t. record { after = record { apps = sym (map-set app_kept apps place t.app) i }; items = t.items }
+  put_back_same : (place : ℕ) → ◌≡◌ {A = Told App → Stepped (List KeptApp)} (λ t. put_back (apps_kept apps) place (kept_told t)) (λ t. kept_apps (put_back apps place t))
+  put_back_same place = λ i t. record { after = sym (map-set app_kept apps place t.app) i; items = t.items }
 
-  found_same : (place : ℕ) (found : Option App) → slice_get apps place ≡ found → on_found as_kept (stores apps) name kept place (option_map app_kept found) ≡ kept_calls (on_found with_history apps name does place found)
+  found_same : (place : ℕ) (found : Option App) → slice_get apps place ≡ found → on_found as_kept (apps_kept apps) name kept place (option_map app_kept found) ≡ with_end kept_apps (on_found with_history apps name does place found)
   found_same place None here = refl
   found_same place (Some app) here =
-      ap (with_end (put_back (stores apps) place)) (same place app here)
-      ∙ end_twice (put_back (stores apps) place) kept_told (does app)
-      ∙ ap (λ (f : Told App → Stepped KeptApp). with_end f (does app)) (put_back_same place)
-      ∙ sym (end_twice kept_step (put_back apps place) (does app))
+      ap (with_end (put_back (apps_kept apps) place)) (same place app here)
+      ∙ end_twice (put_back (apps_kept apps) place) kept_told (does app)
+      ∙ ap (λ (f : Told App → Stepped (List KeptApp)). with_end f (does app)) (put_back_same place)
+      ∙ sym (end_twice kept_apps (put_back apps place) (does app))
 
-  place_found : (place : Option ℕ) → on_place as_kept (stores apps) name kept place ≡ kept_calls (on_place with_history apps name does place)
+  place_found : (place : Option ℕ) → on_place as_kept (apps_kept apps) name kept place ≡ with_end kept_apps (on_place with_history apps name does place)
   place_found None = refl
-  place_found (Some place) = ap (on_found as_kept (stores apps) name kept place) (slice_get-map app_kept apps place) ∙ found_same place (slice_get apps place) refl
+  place_found (Some place) = ap (on_found as_kept (apps_kept apps) name kept place) (slice_get-map app_kept apps place) ∙ found_same place (slice_get apps place) refl
 
-  pub app_same : on_app as_kept (stores apps) name kept ≡ kept_calls (on_app with_history apps name does)
-  app_same = ap (on_place as_kept (stores apps) name kept) (place_same name apps) ∙ place_found (place_of with_history name apps)
+  pub app_same : on_app as_kept (apps_kept apps) name kept ≡ with_end kept_apps (on_app with_history apps name does)
+  app_same = ap (on_place as_kept (apps_kept apps) name kept) (place_same name apps) ∙ place_found (place_of with_history name apps)
 
 -- an app that stands among legal ones is legal
 pub legal_at : (apps : List App) (place : ℕ) (app : App) → slice_get apps place ≡ Some app → AreLegal apps → IsLegalApp app
@@ -271,31 +270,33 @@ module _ (name observer : List ℕ) (app : App) where
 
 -- ---- a line
 
-pub plain_same : (m : State App) (line : SeenLine) → AreLegal m.apps → is_turn line ≡ false → plain_step (stores m.apps) line ≡ kept_calls (step m line)
-unfolding step plain_step
-plain_same m (lines.Open name schema) legal plain = open_same m.apps name schema
-plain_same m (lines.Close name) legal plain = λ i. Done (close_same m.apps name i)
-plain_same m (lines.Enter name writer) legal plain =
-    app_same m.apps name (λ app. Done (enter_app as_kept name writer app)) (λ app. Done (enter_app with_history name writer app)) (λ place app here. ap Done (enter_same name writer app))
-plain_same m (lines.Nest name writer) legal plain =
-    app_same m.apps name (λ app. Done (nest_app as_kept name writer app)) (λ app. Done (nest_app with_history name writer app)) (λ place app here. ap Done (nest_same name writer app))
-plain_same m (lines.Leave name writer) legal plain =
-    app_same m.apps name (λ app. Done (leave_app as_kept name writer app)) (λ app. Done (leave_app with_history name writer app)) (λ place app here. ap Done (leave_same name writer app))
-plain_same m (lines.Write name ops writer) legal plain =
-    app_same m.apps name (write_app as_kept name ops writer) (write_app with_history name ops writer)
-    (λ place app here. write_same name ops app (write_fault writer app.queue) (legal_at m.apps place app here legal))
-plain_same m (lines.Fetch name table query) legal plain = app_same m.apps name (looks as_kept (fetched name table query)) (looks with_history (fetched name table query)) (λ place app here. refl)
-plain_same m (lines.Rows name table) legal plain = app_same m.apps name (looks as_kept (rows_shown name table)) (looks with_history (rows_shown name table)) (λ place app here. refl)
-plain_same m (lines.Observe name observer table query shape) legal plain =
-    app_same m.apps name (λ app. Done (observe_app as_kept name observer table query shape app)) (λ app. Done (observe_app with_history name observer table query shape app))
+pub plain_app_same : (apps : List App) (line : SeenLine) → AreLegal apps → is_turn line ≡ false → plain_app_step (apps_kept apps) line ≡ with_end kept_apps (app_step apps line)
+unfolding app_step plain_app_step
+plain_app_same apps (lines.Open name schema) legal plain = open_same apps name schema
+plain_app_same apps (lines.Close name) legal plain = λ i. Done (close_same apps name i)
+plain_app_same apps (lines.Enter name writer) legal plain =
+    app_same apps name (λ app. Done (enter_app as_kept name writer app)) (λ app. Done (enter_app with_history name writer app)) (λ place app here. ap Done (enter_same name writer app))
+plain_app_same apps (lines.Nest name writer) legal plain =
+    app_same apps name (λ app. Done (nest_app as_kept name writer app)) (λ app. Done (nest_app with_history name writer app)) (λ place app here. ap Done (nest_same name writer app))
+plain_app_same apps (lines.Leave name writer) legal plain =
+    app_same apps name (λ app. Done (leave_app as_kept name writer app)) (λ app. Done (leave_app with_history name writer app)) (λ place app here. ap Done (leave_same name writer app))
+plain_app_same apps (lines.Write name ops writer) legal plain =
+    app_same apps name (write_app as_kept name ops writer) (write_app with_history name ops writer)
+    (λ place app here. write_same name ops app (write_fault writer app.queue) (legal_at apps place app here legal))
+plain_app_same apps (lines.Fetch name table query) legal plain = app_same apps name (looks as_kept (fetched name table query)) (looks with_history (fetched name table query)) (λ place app here. refl)
+plain_app_same apps (lines.Rows name table) legal plain = app_same apps name (looks as_kept (rows_shown name table)) (looks with_history (rows_shown name table)) (λ place app here. refl)
+plain_app_same apps (lines.Observe name observer table query shape) legal plain =
+    app_same apps name (λ app. Done (observe_app as_kept name observer table query shape app)) (λ app. Done (observe_app with_history name observer table query shape app))
     (λ place app here. ap Done (observe_same name observer app table query shape))
-plain_same m (lines.Watch name observer table id to) legal plain =
-    app_same m.apps name (λ app. Done (watch_app as_kept name observer table id to app)) (λ app. Done (watch_app with_history name observer table id to app))
+plain_app_same apps (lines.Watch name observer table id to) legal plain =
+    app_same apps name (λ app. Done (watch_app as_kept name observer table id to app)) (λ app. Done (watch_app with_history name observer table id to app))
     (λ place app here. ap Done (watch_same name observer app table id to))
-plain_same m (lines.Turn name observer) legal plain = absurd (grind (arith, plain))
-plain_same m (lines.Drop name observer) legal plain =
-    app_same m.apps name (λ app. Done (drop_app as_kept name observer app)) (λ app. Done (drop_app with_history name observer app)) (λ place app here. ap Done (drop_same name observer app))
-plain_same m (lines.Parent name table id to) legal plain =
-    app_same m.apps name (looks as_kept (parent_shown name table id to)) (looks with_history (parent_shown name table id to)) (λ place app here. refl)
-plain_same m (lines.Children name table id to) legal plain =
-    app_same m.apps name (looks as_kept (children_shown name table id to)) (looks with_history (children_shown name table id to)) (λ place app here. refl)
+plain_app_same apps (lines.Turn name observer) legal plain = absurd (grind (arith, plain))
+plain_app_same apps (lines.Drop name observer) legal plain =
+    app_same apps name (λ app. Done (drop_app as_kept name observer app)) (λ app. Done (drop_app with_history name observer app)) (λ place app here. ap Done (drop_same name observer app))
+plain_app_same apps (lines.Parent name table id to) legal plain =
+    app_same apps name (looks as_kept (parent_shown name table id to)) (looks with_history (parent_shown name table id to)) (λ place app here. refl)
+plain_app_same apps (lines.Children name table id to) legal plain =
+    app_same apps name (looks as_kept (children_shown name table id to)) (looks with_history (children_shown name table id to)) (λ place app here. refl)
+plain_app_same apps (lines.Backend schema) legal plain = refl
+plain_app_same apps (lines.Server table) legal plain = refl

@@ -1,7 +1,10 @@
+pub mod Apps
 pub mod Calls
 pub mod Legal
+pub mod Outcomes
 pub mod Refusals
 pub mod Run
+pub mod Servers
 pub mod Showing
 pub mod Sound
 pub mod State

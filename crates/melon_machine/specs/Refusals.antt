@@ -1,6 +1,5 @@
 -- The printed refusals: the group, the number and the details of each fault. Want of memory, which has number 0 here, is never printed.
 use Rattle.std.specs.Prelude.{ℕ, List, [], ◌∷◌, Bool, true, false, Option, Some, None}
-use Rattle.std.specs.List.{list_any}
 use Rattle.melon_schema.specs.declared.schema_fault.SchemaFault.{SchemaFault}
 use Rattle.melon_schema.specs.Schema.{fault_number}
 use Rattle.melon_query.specs.declared.query_fault.QueryFault.{QueryFault}
@@ -36,6 +35,10 @@ schema_refusal fault = refused groups.Schema (fault_number fault) []
 
 abbrev pub table_refusal : List ℕ → Item
 table_refusal table = refused groups.Table 1 (Words table ∷ [])
+
+-- 1 already open, 2 not open
+abbrev pub backend_refusal : ℕ → Item
+backend_refusal number = refused groups.Backend number []
 
 abbrev pub keeper_refusal : Item
 keeper_refusal = refused groups.Keeper 1 []

@@ -1,12 +1,13 @@
 -- What holds of the machine after every line of every script.
-use Rattle.std.specs.Prelude.{◌≡◌, ◌≢◌, ℕ, List, [], ◌∷◌, map, Bool, true}
+use Rattle.std.specs.Prelude.{◌≡◌, ◌≢◌, ℕ, List, [], ◌∷◌, map, Bool, true, Option, Some, None}
 use Rattle.melon_outside.specs.Kept.{is_in_order}
 use Rattle.melon_outside.specs.Keeping.{Stores}
 use Rattle.melon_outside.specs.declared.kept.Kept.{Kept}
 use Rattle.melon_board.specs.Keeps.{Keeps}
 use Rattle.melon_board.specs.Lasting.{IsWellFormed}
 use Rattle.melon_board.specs.Stores.{Continues, store_key}
-use Rattle.melon_machine.specs.State.{App, State, store_of}
+use Rattle.melon_backend.specs.Keeps.{KeepsLog}
+use Rattle.melon_machine.specs.State.{App, Machine, Server, server_store, store_of}
 use Rattle.melon_machine.specs.Run.{run}
 
 -- The app's journal is a legal history from its opening rows. What is kept of its store are the encodings of the replay, and the
@@ -33,10 +34,23 @@ abbrev pub names_of : List App → List (List ℕ)
 names_of apps = map (λ (a : App). a.name) apps
 
 -- What is kept is in order, no two open apps have one name, and each is sound.
-pub record IsSound (m : State App) (kept : Stores) : Type 0 where
+pub record AreSound (opened : List App) (kept : Stores) : Type 0 where
   pub ordered : (name : List ℕ) → is_in_order (kept name) ≡ true
-  pub different : AreDifferent (names_of m.apps)
-  pub apps : AreSoundApps m.apps kept
+  pub different : AreDifferent (names_of opened)
+  pub apps : AreSoundApps opened kept
+
+-- What is kept of the server are the bodies of its log's rows now, and its revision and version.
+abbrev pub IsSoundServer : Server → Stores → Type 0
+IsSoundServer server kept = KeepsLog server.log server.schema.version (kept server_store)
+
+abbrev pub IsSoundIfOpen : Option Server → Stores → Type 0
+IsSoundIfOpen None kept = Unit {0}
+IsSoundIfOpen (Some server) kept = IsSoundServer server kept
+
+-- The apps are sound, and so is the server where it is open.
+pub record IsSound (m : Machine) (kept : Stores) : Type 0 where
+  pub apps : AreSound m.apps kept
+  pub server : IsSoundIfOpen m.server kept
 
 -- Whatever the script and the outcomes of the keeper's calls, a run over what is kept in order ends so.
 abbrev pub RunsAreSound : Type 0

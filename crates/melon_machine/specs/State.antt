@@ -1,5 +1,6 @@
--- What the machine knows of its apps. It is told for two kinds of app: one with its whole history, and one as the code has it.
-use Rattle.std.specs.Prelude.{ℕ, List, [], ◌∷◌, ◌++◌, length, map}
+-- What the machine knows of its apps and of its server. It is told for two kinds of each: one with its whole history, and one as the
+-- code has it.
+use Rattle.std.specs.Prelude.{ℕ, List, [], ◌∷◌, ◌++◌, length, map, codes, Option, None, option_map}
 use Rattle.std.specs.List.{remove}
 use Rattle.melon_raw.specs.Rows.{Rows}
 use Rattle.melon_schema.specs.Seen.{SeenSchema}
@@ -7,6 +8,10 @@ use Rattle.melon_change.specs.declared.history.Entry.{Entry}
 use Rattle.melon_change.specs.History.{History, replay}
 use Rattle.melon_queue.specs.Seen.{SeenQueue}
 use Rattle.melon_board.specs.Stores.{SeenStore}
+use Rattle.melon_log.specs.Log.{Log, revision, server_rows}
+use Rattle.melon_log.specs.ServerRows.{ServerRows}
+use Rattle.melon_backend.specs.Backends.{SeenBackend}
+use Rattle.melon_backend.specs.Standing.{opened_log}
 use Rattle.melon_query.specs.declared.query.Query.{Query}
 use Rattle.melon_views.specs.declared.emission.Shape.{Shape}
 use Rattle.melon_views.specs.Views.{shown, view}
@@ -154,12 +159,70 @@ as_kept = record {
   dropped = λ a place. kept_app a.store a.queue (remove a.observers place);
 }
 
--- the open apps in the order of their opening
-pub record State (A : Type 0) : Type 0 where
+-- ---- the server
+
+-- an open server: the log of the pushes that it accepted since its opening
+pub record Server : Type 0 where
+  pub schema : SeenSchema
+  pub log : Log
+
+-- the name under which its rows are kept
+abbrev pub server_store : List ℕ
+server_store = codes "backend"
+
+-- a server that was just opened begins a log of its own with the rows that are kept
+abbrev pub server_opened : SeenBackend → Server
+server_opened b = record { schema = b.schema; log = opened_log b }
+
+-- as the code has it, with its rows now in the place of the pushes
+abbrev pub server_kept : Server → SeenBackend
+server_kept s = record { name = server_store; schema = s.schema; rows = server_rows s.log; revision = revision s.log }
+
+-- how the machine sees the server
+pub record ServerKind (S : Type 0) : Type 0 where
+  pub opened : SeenBackend → S
+  pub schema : S → SeenSchema
+  pub rows : S → ServerRows
+  pub revision : S → ℕ
+
+abbrev pub with_log : ServerKind Server
+with_log = record {
+  opened = server_opened;
+  schema = λ s. s.schema;
+  rows = λ s. server_rows s.log;
+  revision = λ s. revision s.log;
+}
+
+abbrev pub with_rows : ServerKind SeenBackend
+with_rows = record {
+  opened = λ b. b;
+  schema = λ b. b.schema;
+  rows = λ b. b.rows;
+  revision = λ b. b.revision;
+}
+
+-- ---- the machine
+
+-- the open apps in the order of their opening, and the server where it is open
+pub record State (A S : Type 0) : Type 0 where
   pub apps : List A
+  pub server : Option S
 
-abbrev pub kept_of : State App → State KeptApp
-kept_of m = record { apps = map app_kept m.apps }
+abbrev pub Machine : Type 0
+Machine = State App Server
 
-abbrev pub none_open : {A : Type 0} → State A
-none_open = record { apps = [] }
+-- as the code has it
+abbrev pub KeptMachine : Type 0
+KeptMachine = State KeptApp SeenBackend
+
+abbrev pub apps_kept : List App → List KeptApp
+apps_kept apps = map app_kept apps
+
+abbrev pub server_if_kept : Option Server → Option SeenBackend
+server_if_kept server = option_map server_kept server
+
+abbrev pub kept_of : Machine → KeptMachine
+kept_of m = record { apps = apps_kept m.apps; server = server_if_kept m.server }
+
+abbrev pub none_open : {A S : Type 0} → State A S
+none_open = record { apps = []; server = None }

@@ -6,4 +6,6 @@ mod queries;
 #[cfg(test)]
 mod runs;
 #[cfg(test)]
+mod servers;
+#[cfg(test)]
 mod trial;

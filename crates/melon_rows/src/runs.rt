@@ -15,7 +15,7 @@ const FETCHED: &str = r#"{"do":"fetch","app":"A","table":"posts","query":{}}"#;
 
 const THREE_TEXT: &str = "open A rows 0 last 0\nwrite A at 1\nfetch A [\"p1\",\"p2\",\"p3\"]\n";
 
-fn script(alloc: Global, lines: &[&str]) -> Result<Vec<u8>, Fail> {
+pub fn script(alloc: Global, lines: &[&str]) -> Result<Vec<u8>, Fail> {
     let mut bytes = Vec::new(alloc);
     for line in lines {
         bytes.extend_from_slice(line.as_bytes())?;

@@ -1,6 +1,6 @@
 //! One run over a source, a sink and a keeper in memory.
 use melon_cli::{Status, melon_run};
-use melon_outside::{MemoryKeeper, MemorySink, MemorySource};
+use melon_outside::{Keeper, MemoryKeeper, MemorySink, MemorySource};
 use melon_schema::List;
 use std::alloc::Global;
 use std::test::Fail;
@@ -28,12 +28,25 @@ fn copied(alloc: Global, numbers: &[u64]) -> Result<List<u64>, Fail> {
     Ok(List::from_vec(numbers.to_vec(alloc)?))
 }
 
-/// Runs these words on these bytes: the status, and what was written.
+/// Runs these words on these bytes over nothing kept: the status, and what was written.
 pub fn ends(
     alloc: Global,
     words: &[&str],
     bytes: Vec<u8>,
     outside: &Outside<'_>,
+) -> Result<(Status, String), Fail> {
+    let fails = copied(alloc, outside.keeper_fails)?;
+    let mut keeper = MemoryKeeper::new(alloc, List::new(alloc), fails);
+    ends_over(alloc, words, bytes, outside, &mut keeper)
+}
+
+/// The same over what a keeper keeps.
+pub fn ends_over<K: Keeper>(
+    alloc: Global,
+    words: &[&str],
+    bytes: Vec<u8>,
+    outside: &Outside<'_>,
+    keeper: &mut K,
 ) -> Result<(Status, String), Fail> {
     let mut owned = Vec::new(alloc);
     for word in words {
@@ -53,15 +66,7 @@ pub fn ends(
         outside.most,
         copied(alloc, outside.write_fails)?,
     )?;
-    let fails = copied(alloc, outside.keeper_fails)?;
-    let mut keeper = MemoryKeeper::new(alloc, List::new(alloc), fails);
-    let status = melon_run(
-        alloc,
-        owned.as_slice(),
-        &mut input,
-        &mut output,
-        &mut keeper,
-    );
+    let status = melon_run(alloc, owned.as_slice(), &mut input, &mut output, keeper);
     let text = String::from_utf8(output.bytes().to_vec(alloc)?)?;
     Ok((status, text))
 }

@@ -1,3 +1,4 @@
+pub mod Begun
 pub mod Dropped
 pub mod Fields
 pub mod Meeting

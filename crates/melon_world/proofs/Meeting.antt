@@ -11,7 +11,8 @@ use Rattle.melon_script.specs.declared.item.Item.{Item}
 use Rattle.melon_machine.specs.Calls.{Calls, Done, Load, Commit, asks, with_end, failures, RoseBy, after_batch, Follows, Meets}
 use Rattle.melon_machine.specs.Refusals.{is_of_keeper, app_refusal}
 use Rattle.melon_machine.specs.State.{KeptApp, as_kept}
-use Rattle.melon_machine.specs.Step.{Told, told, Stepped, stepped, put_back, on_app, on_place, on_found, place_of}
+use Rattle.melon_machine.specs.Apps.{Told, told, put_back, on_app, on_place, on_found, place_of}
+use Rattle.melon_machine.specs.Outcomes.{Stepped, stepped}
 use Rattle.melon_machine.proofs.Followed.{changes_same, rose_none}
 use Rattle.melon_world.specs.Handled.{IsHandled}
 
@@ -69,7 +70,7 @@ module _ (before now : Stores → Type 0) (count count' : ℕ) where
       → IsHandled (does store) (told left) is_of_keeper before now count count' store left result
       → IsHandled (on_app as_kept apps name does) (stepped (set apps place left)) is_of_keeper before now count count' apps (set apps place left) result
   on_app_handled apps name does place store left (Ok item) at here h = record {
-    met = subst (λ (calls : Calls (Stepped KeptApp)). Meets calls before now count count' (stepped (set apps place left) item))
+    met = subst (λ (calls : Calls (Stepped (List KeptApp))). Meets calls before now count count' (stepped (set apps place left) item))
         (sym (app_found apps name does place store at here))
         (met_at_end before now count count' (put_back apps place) (does store) (told left item) h.met);
     same = tt;
@@ -86,11 +87,11 @@ module _ (before now : Stores → Type 0) (count count' : ℕ) where
   }
 
 -- a handler that asks nothing of the keeper
-pub handled_quietly : {E : Type 0} (holds : Stores → Type 0) (count : ℕ) (calls : Calls (Stepped KeptApp)) (apps left : List KeptApp) (result : Result Item E)
+pub handled_quietly : {E : Type 0} (holds : Stores → Type 0) (count : ℕ) (calls : Calls (Stepped (List KeptApp))) (apps left : List KeptApp) (result : Result Item E)
     → IfOk result (λ item. calls ≡ Done (stepped left item)) → IfOk result (λ item. is_of_keeper item ≡ false) → OnErr result (left ≡ apps)
     → IsHandled calls (stepped left) is_of_keeper holds holds count count apps left result
 handled_quietly holds count calls apps left (Ok item) is quiet same = record {
-  met = subst (λ (c : Calls (Stepped KeptApp)). Meets c holds holds count count (stepped left item)) (sym is) (met_quietly holds holds count count (stepped left item) (λ m told. (m, told, λ name. refl)) (omega arith));
+  met = subst (λ (c : Calls (Stepped (List KeptApp))). Meets c holds holds count count (stepped left item)) (sym is) (met_quietly holds holds count count (stepped left item) (λ m told. (m, told, λ name. refl)) (omega arith));
   same = tt;
   held = tt;
   later = omega arith;

@@ -17,7 +17,8 @@ use Rattle.melon_script.specs.declared.item.Item.TheVariants as items
 use Rattle.melon_machine.specs.Calls.{Calls, Done, Load, asks, failures, RoseBy, Follows, Meets}
 use Rattle.melon_machine.specs.Refusals.{is_of_keeper, open_refusal, keeper_refusal}
 use Rattle.melon_machine.specs.State.{KeptApp, kept_app, no_writers, as_kept}
-use Rattle.melon_machine.specs.Step.{Stepped, stepped, row_count, with_opened, opens_by, opens_over, opens_under}
+use Rattle.melon_machine.specs.Apps.{row_count, with_opened, opens_by, opens_over, opens_under}
+use Rattle.melon_machine.specs.Outcomes.{Stepped, stepped}
 use Rattle.melon_machine.proofs.Followed.{rose_none}
 use Rattle.melon_world.specs.Handled.{IsHandled}
 use Rattle.melon_world.proofs.Meeting.{asks_done}

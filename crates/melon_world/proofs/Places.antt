@@ -3,7 +3,7 @@ use Rattle.std.proofs.Common.{◌≡◌, ℕ, List, map, position, bytes_eq, sym
 use Rattle.melon_change.proofs.Someness.{position-map}
 use Rattle.melon_machine.specs.Refusals.{observer_refusal}
 use Rattle.melon_machine.specs.State.{KeptObserver, KeptApp, as_kept}
-use Rattle.melon_machine.specs.Step.{Told, told, place_in, unless_told}
+use Rattle.melon_machine.specs.Apps.{Told, told, place_in, unless_told}
 
 pub named_place : (name : List ℕ) (observers : List KeptObserver) → position (λ (o : KeptObserver). bytes_eq o.name name) observers ≡ place_in name (map (λ (o : KeptObserver). o.name) observers)
 named_place name observers = sym (position-map (λ (n : List ℕ). bytes_eq n name) (λ (o : KeptObserver). o.name) observers)

@@ -8,15 +8,16 @@ use Rattle.melon_schema.specs.Names.{is_id}
 use Rattle.melon_board.specs.Stores.{SeenStore}
 use Rattle.melon_script.specs.SeenLine as lines
 use Rattle.melon_script.specs.declared.item.Item.{Item}
-use Rattle.melon_machine.specs.Calls.{Calls, Done}
-use Rattle.melon_machine.specs.Legal.{IsLegalApp, AreLegal, IsKeptAs}
+use Rattle.melon_machine.specs.Calls.{Calls, Done, with_end}
+use Rattle.melon_machine.specs.Legal.{IsLegalApp, AreLegal, AreKeptAs}
 use Rattle.melon_machine.specs.Refusals.{app_refusal, observer_refusal}
 use Rattle.melon_machine.specs.Showing.{turn_items}
-use Rattle.melon_machine.specs.State.{App, Observer, named, observed_by, history_of, store_of, KeptObserver, KeptApp, kept_app, observer_kept, app_kept, with_history, as_kept, State, kept_of}
-use Rattle.melon_machine.specs.Step.{Stepped, stepped, Told, told, put_back, place_of, on_found, on_place, ends_with, place_in, turned, turns_of, turns_at, turn_app, step, kept_told, kept_step, kept_calls}
+use Rattle.melon_machine.specs.State.{App, Observer, named, observed_by, history_of, store_of, KeptObserver, KeptApp, kept_app, observer_kept, app_kept, with_history, as_kept, apps_kept}
+use Rattle.melon_machine.specs.Apps.{Told, told, put_back, place_of, on_found, on_place, place_in, turned, turns_of, turns_at, turn_app, app_step, kept_told, kept_apps}
+use Rattle.melon_machine.specs.Outcomes.{Stepped, stepped, ends_with}
 use Rattle.melon_machine.proofs.Legality.{legal_set, observed_legal, within_set}
-use Rattle.melon_machine.proofs.Simulated.{stores, names_same, place_same, legal_at}
-use Rattle.melon_world.specs.Handled.{watch_bound, observer_bound, place_bound, app_bound, apps_bound, turn_bound, IsAppLeft, IsTurnedOn, StandsAt}
+use Rattle.melon_machine.proofs.Simulated.{names_same, place_same, legal_at}
+use Rattle.melon_world.specs.Handled.{watch_bound, observer_bound, place_bound, app_bound, apps_bound, turn_bound, IsAppLeft, AreTurnedOn, StandsAt}
 use Rattle.melon_world.proofs.Meeting.{slice_get_or}
 use Rattle.melon_world.proofs.Places.{named_place}
 use Rattle.std.proofs.lemmas.List.Quantifiers.{position-Some}
@@ -97,36 +98,36 @@ module _ (apps : List KeptApp) (name : List ℕ) (place : ℕ) (k : KeptApp) (at
   pub line_bound_is : (observer : List ℕ) → turn_bound apps name observer ≡ app_bound observer (Some k)
   line_bound_is observer = ap (apps_bound apps observer) (sym at) ∙ ap (app_bound observer) app_there
 
-  module _ (m : State App) (h : IsKeptAs m (record { apps = apps })) where
-    pub app_found : (a : App) × (slice_get m.apps place ≡ Some a) × (app_kept a ≡ k)
-    app_found = mapped_at app_kept m.apps place k (ap (λ (w : State KeptApp). slice_get w.apps place) h.same ∙ app_there)
+  module _ (machines : List App) (h : AreKeptAs machines apps) where
+    pub app_found : (a : App) × (slice_get machines place ≡ Some a) × (app_kept a ≡ k)
+    app_found = mapped_at app_kept machines place k (ap (λ (w : List KeptApp). slice_get w place) h.same ∙ app_there)
 
     pub found_legal : IsLegalApp app_found.0
-    found_legal = legal_at m.apps place app_found.0 app_found.1 h.legal
+    found_legal = legal_at machines place app_found.0 app_found.1 h.legal
 
-    place_is : place_of with_history name m.apps ≡ Some place
-    place_is = sym (place_same name m.apps) ∙ ap (λ (w : State KeptApp). place_of as_kept name w.apps) h.same ∙ sym at
+    place_is : place_of with_history name machines ≡ Some place
+    place_is = sym (place_same name machines) ∙ ap (place_of as_kept name) h.same ∙ sym at
 
-    set_is : (b : App) (left : KeptApp) → app_kept b ≡ left → stores (set m.apps place b) ≡ set apps place left
-    set_is b left is = map-set app_kept m.apps place b ∙ (λ i. set (h.same i).apps place (is i))
+    set_is : (b : App) (left : KeptApp) → app_kept b ≡ left → apps_kept (set machines place b) ≡ set apps place left
+    set_is b left is = map-set app_kept machines place b ∙ (λ i. set (h.same i) place (is i))
 
     pub turn_called : (observer : List ℕ) (left : KeptApp) (items : List Item) → kept_told (turn_app name observer app_found.0) ≡ record { app = left; items = items }
-        → kept_calls (step m (lines.Turn name observer)) ≡ Done (ends_with (record { apps = set apps place left }) items)
-    unfolding step
+        → with_end kept_apps (app_step machines (lines.Turn name observer)) ≡ Done (ends_with (set apps place left) items)
+    unfolding app_step
     turn_called observer left items is =
-        ap (λ p. kept_calls (on_place with_history m.apps name (λ app. Done (turn_app name observer app)) p)) place_is
-        ∙ ap (λ f. kept_calls (on_found with_history m.apps name (λ app. Done (turn_app name observer app)) place f)) app_found.1
-        ∙ (λ i. Done (record { after = record { apps = set_is (turn_app name observer app_found.0).app left (ap (λ (t : Told KeptApp). t.app) is) i }; items = ap (λ (t : Told KeptApp). t.items) is i }))
+        ap (λ p. with_end kept_apps (on_place with_history machines name (λ app. Done (turn_app name observer app)) p)) place_is
+        ∙ ap (λ f. with_end kept_apps (on_found with_history machines name (λ app. Done (turn_app name observer app)) place f)) app_found.1
+        ∙ (λ i. Done (ends_with (set_is (turn_app name observer app_found.0).app left (ap (λ (t : Told KeptApp). t.app) is) i) (ap (λ (t : Told KeptApp). t.items) is i)))
 
-    pub left_on : (left : KeptApp) → IsAppLeft app_found.0 k left → IsTurnedOn m (record { apps = set apps place left })
+    pub left_on : (left : KeptApp) → IsAppLeft app_found.0 k left → AreTurnedOn machines (set apps place left)
     left_on left (inl unchanged) = record {
       place = place;
       app = app_found.0;
       observers = app_found.0.observers;
       there = app_found.1;
       after = record {
-        same = λ i. record { apps = set_is app_found.0 left (app_found.2 ∙ sym unchanged) i };
-        legal = legal_set m.apps place app_found.0 h.legal found_legal;
+        same = set_is app_found.0 left (app_found.2 ∙ sym unchanged);
+        legal = legal_set machines place app_found.0 h.legal found_legal;
       };
     }
     left_on left (inr moved) =
@@ -138,15 +139,15 @@ module _ (apps : List KeptApp) (name : List ℕ) (place : ℕ) (k : KeptApp) (at
           observers = observers;
           there = app_found.1;
           after = record {
-            same = λ i. record { apps = set_is (observed_by a observers) left (sym moved.5) i };
-            legal = legal_set m.apps place (observed_by a observers) h.legal (observed_legal a found_legal observers (within_set a found_legal a.observers moved.0 (named moved.2.name moved.2.watch moved.1) moved.4 found_legal.within));
+            same = set_is (observed_by a observers) left (sym moved.5);
+            legal = legal_set machines place (observed_by a observers) h.legal (observed_legal a found_legal observers (within_set a found_legal a.observers moved.0 (named moved.2.name moved.2.watch moved.1) moved.4 found_legal.within));
           };
         }
 
 -- no app of that name is open
-pub turn_missing : (apps : List KeptApp) (name observer : List ℕ) (m : State App) → IsKeptAs m (record { apps = apps }) → None ≡ place_of as_kept name apps
-    → kept_calls (step m (lines.Turn name observer)) ≡ Done (stepped apps (app_refusal 2 name))
-unfolding step
-turn_missing apps name observer m h none =
-    ap (λ p. kept_calls (on_place with_history m.apps name (λ app. Done (turn_app name observer app)) p)) (sym (place_same name m.apps) ∙ ap (λ (w : State KeptApp). place_of as_kept name w.apps) h.same ∙ sym none)
-    ∙ ap (λ (w : State KeptApp). Done (stepped w.apps (app_refusal 2 name))) h.same
+pub turn_missing : (apps : List KeptApp) (name observer : List ℕ) (machines : List App) → AreKeptAs machines apps → None ≡ place_of as_kept name apps
+    → with_end kept_apps (app_step machines (lines.Turn name observer)) ≡ Done (stepped apps (app_refusal 2 name))
+unfolding app_step
+turn_missing apps name observer machines h none =
+    ap (λ p. with_end kept_apps (on_place with_history machines name (λ app. Done (turn_app name observer app)) p)) (sym (place_same name machines) ∙ ap (place_of as_kept name) h.same ∙ sym none)
+    ∙ ap (λ (w : List KeptApp). Done (stepped w (app_refusal 2 name))) h.same

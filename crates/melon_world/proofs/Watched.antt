@@ -9,7 +9,7 @@ use Rattle.melon_relation.specs.Watching.{Watched}
 use Rattle.melon_script.specs.declared.item.Given.{Given}
 use Rattle.melon_script.specs.declared.item.Item.TheVariants as items
 use Rattle.melon_machine.specs.State.{KeptApp, kept_app, kept_observer, Owns, as_kept}
-use Rattle.melon_machine.specs.Step.{told, watches_by}
+use Rattle.melon_machine.specs.Apps.{told, watches_by}
 use Rattle.melon_world.specs.Handled.{shown_of, watch_shown}
 
 pub watch_told : (name observer : List ℕ) (app : KeptApp) (table : ℕ) (id : List ℕ) (to : ℕ) (opened : Watched) (given : Given) → watch_shown app.store table id to ≡ Ok (opened, given)

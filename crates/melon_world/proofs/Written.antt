@@ -17,7 +17,7 @@ use Rattle.melon_script.specs.declared.item.Item.TheVariants as items
 use Rattle.melon_machine.specs.Calls.{Calls, Done, asks, failures, RoseBy, Follows, Meets}
 use Rattle.melon_machine.specs.Refusals.{is_of_keeper, write_refusal, batch_refusal, keeper_refusal}
 use Rattle.melon_machine.specs.State.{KeptApp, kept_app, as_kept}
-use Rattle.melon_machine.specs.Step.{Told, told, writes_by}
+use Rattle.melon_machine.specs.Apps.{Told, told, writes_by}
 use Rattle.melon_machine.proofs.Followed.{rose_none}
 use Rattle.melon_world.specs.Handled.{IsHandled, Tells}
 use Rattle.melon_world.proofs.Meeting.{asks_done, asks_failed, met_quietly}

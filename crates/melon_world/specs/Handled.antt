@@ -1,6 +1,5 @@
 -- What a handler of a line answered and left.
 use Rattle.std.specs.Prelude.{◌≡◌, ◌≢◌, ◌≤◌, ◌+◌, ◌⊎◌, ℕ, List, [], ◌∷◌, length, map, set, slice_get, Bool, true, false, Option, Some, None, option_and_then, Result, Ok, Err, IfOk, OnErr, if◌then◌else◌}
-use Rattle.std.specs.Borrow.{Bor}
 use Rattle.std.specs.List.{list_any}
 use Rattle.melon_outside.specs.Causes.{Rose}
 use Rattle.melon_outside.specs.Keeping.{Stores}
@@ -21,13 +20,18 @@ use Rattle.melon_relation.specs.declared.relation.Relation.{Relation}
 use Rattle.melon_relation.specs.Relations.{related, parent_in}
 use Rattle.melon_relation.specs.Watching.{Watched, watch_opened}
 use Rattle.melon_observe.specs.Journals.{changes_between}
+use Rattle.serde_json.specs.View.{view}
 use Rattle.melon_script.specs.SeenLine as lines
 use Rattle.melon_script.specs.SeenLine.{SeenLine}
 use Rattle.melon_script.specs.declared.item.Given.{Given}
-use Rattle.melon_machine.specs.Legal.{IsLegalApp, IsKeptAs}
+use Rattle.melon_world.specs.declared.kind.LineKind.{LineKind}
+use Rattle.melon_world.specs.declared.kind.LineKind.TheVariants as kinds
+use Rattle.melon_machine.specs.Legal.{IsLegalApp, AreKeptAs, IsKeptAs}
 use Rattle.melon_machine.specs.Showing.{given_parent}
-use Rattle.melon_machine.specs.State.{App, Observer, named, observed_by, history_of, Watch, kept_at, KeptWatch, Answers, Owns, KeptObserver, KeptApp, State, as_kept, observer_kept, app_kept}
-use Rattle.melon_machine.specs.Step.{Stepped, kept_calls, place_of, place_in, is_turn}
+use Rattle.melon_machine.specs.State.{App, Observer, named, observed_by, history_of, Watch, kept_at, KeptWatch, Answers, Owns, KeptObserver, KeptApp, Machine, KeptMachine, as_kept, observer_kept, app_kept}
+use Rattle.melon_machine.specs.Apps.{place_of, place_in}
+use Rattle.melon_machine.specs.Outcomes.{Stepped}
+use Rattle.melon_machine.specs.Step.{kept_calls, is_turn, is_of_server}
 use Rattle.melon_machine.specs.Calls.{Calls, Follows, failures, RoseBy, Meets}
 use Rattle.melon_machine.specs.Refusals.{is_of_keeper, write_refusal}
 
@@ -47,12 +51,21 @@ pub record IsHandled {X T R E : Type 0} (calls : Calls X) (end : R → X) (tells
   pub later : faults_before ≤ faults_now
   pub cause : IfOk result (λ answer. tells answer ≡ true → Rose faults_before faults_now)
 
+-- ---- kinds of lines
+
+-- the parts of a turn and of a line of the server, where the line is one
+abbrev pub IsKind : SeenLine → LineKind → Type 0
+IsKind line (kinds.Turn app observer) = line ≡ lines.Turn app.now observer.now
+IsKind line (kinds.Backend schema) = line ≡ lines.Backend (view schema.now)
+IsKind line (kinds.Server table) = line ≡ lines.Server table.now
+IsKind line kinds.App = (is_turn line ≡ false) × (is_of_server line ≡ false)
+
 -- ---- a step
 
 -- The keeper held this, and every machine that the code had so makes calls over it that leave what it holds now and end so.
-abbrev pub MeetsAs : (State App → Calls (Stepped App)) → State KeptApp → (Stores → Type 0) → (Stores → Type 0) → ℕ → ℕ → Stepped KeptApp → Type 0
+abbrev pub MeetsAs : (Machine → Calls (Stepped Machine)) → KeptMachine → (Stores → Type 0) → (Stores → Type 0) → ℕ → ℕ → Stepped KeptMachine → Type 0
 MeetsAs calls was before now faults_before faults_now end =
-    (m : Stores) → now m → (kept : Stores) × before kept × ((machine : State App) → IsKeptAs machine was
+    (m : Stores) → now m → (kept : Stores) × before kept × ((machine : Machine) → IsKeptAs machine was
     → (used : List Bool) × Follows (kept_calls (calls machine)) kept used end m × RoseBy (failures used) faults_before faults_now)
 
 -- ---- watches
@@ -65,11 +78,6 @@ abbrev pub watch_shown : SeenStore → ℕ → List ℕ → ℕ → Result (Watc
 watch_shown store table id to = related store.schema.tables store.rows table id to >>= λ r. Ok (shown_of store r)
 
 -- ---- turns
-
--- the app and the observer of a turn, where the line is one
-abbrev pub IsTurn : SeenLine → Option (Bor (List ℕ) × Bor (List ℕ)) → Type 0
-IsTurn line None = is_turn line ≡ false
-IsTurn line (Some turn) = line ≡ lines.Turn turn.0.now turn.1.now
 
 -- the changes behind the position of an observer of a simple query
 abbrev pub watch_bound : SeenStore → KeptWatch → Option ℕ
@@ -123,17 +131,22 @@ pub record StandsAt (app : App) (o : Observer) (left : KeptObserver) : Type 0 wh
 abbrev pub IsAppLeft : App → KeptApp → KeptApp → Type 0
 IsAppLeft a was left = (left ≡ was) ⊎ ((place at : ℕ) × (o : Observer) × (slice_get a.observers place ≡ Some o) × (at ≤ length a.entries) × (left ≡ app_kept (observed_by a (set a.observers place (named o.name o.watch at)))))
 
--- This is how the code has a machine in which one observer has taken turns.
-pub record IsTurnedOn (m : State App) (left : State KeptApp) : Type 0 where
+-- This is how the code has apps of which one has an observer that has taken turns.
+pub record AreTurnedOn (apps : List App) (left : List KeptApp) : Type 0 where
   pub place : ℕ
   pub app : App
   pub observers : List Observer
-  pub there : slice_get m.apps place ≡ Some app
-  pub after : IsKeptAs (record { apps = set m.apps place (observed_by app observers) }) left
+  pub there : slice_get apps place ≡ Some app
+  pub after : AreKeptAs (set apps place (observed_by app observers)) left
 
 -- as before, or with an observer that has taken turns
-abbrev pub IsLeft : State KeptApp → State KeptApp → Type 0
-IsLeft was left = (left ≡ was) ⊎ ((m : State App) → IsKeptAs m was → IsTurnedOn m left)
+abbrev pub AreLeft : List KeptApp → List KeptApp → Type 0
+AreLeft was left = (left ≡ was) ⊎ ((apps : List App) → AreKeptAs apps was → AreTurnedOn apps left)
+
+-- The apps are as before, or one has an observer that has taken turns. The server is as it was.
+pub record IsLeft (was left : KeptMachine) : Type 0 where
+  pub apps : AreLeft was.apps left.apps
+  pub server : left.server ≡ was.server
 
 -- what a watch's turn prints before the item that it is still
 abbrev pub changed_items : List TableSchema → List ℕ → List ℕ → ℕ → Option (ℕ × Parent) → Item → List Item

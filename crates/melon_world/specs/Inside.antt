@@ -1,5 +1,5 @@
 -- What the fields of apps, observers and worlds stand for.
-use Rattle.melon_machine.specs.State.{KeptApp, KeptObserver, kept_observer, KeptWatch, Answers, Owns, State}
+use Rattle.melon_machine.specs.State.{KeptApp, KeptObserver, kept_observer, KeptMachine, KeptWatch, Answers, Owns}
 use Rattle.melon_world.specs.declared.observer.Watching.{Watching}
 use Rattle.melon_world.specs.declared.observer.Watching.TheVariants.{Answer, Owner}
 use Rattle.melon_world.specs.declared.observer.NamedObserver.TheInside as observer
@@ -16,5 +16,5 @@ observer_in o = kept_observer o.name (watch_in o.watching)
 abbrev pub app_in : app.Inside → KeptApp
 app_in a = record { store = a.store; queue = a.queue; observers = a.observers.items }
 
-abbrev pub world_in : world.Inside → State KeptApp
-world_in w = record { apps = w.apps.items }
+abbrev pub world_in : world.Inside → KeptMachine
+world_in w = record { apps = w.apps.items; server = w.server }

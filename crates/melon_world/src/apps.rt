@@ -6,7 +6,8 @@ ghost use Rattle.melon_schema.specs.Schema.{schema_of};
 ghost use Rattle.melon_table.specs.Seen.{rows_of};
 ghost use Rattle.melon_machine.specs.Refusals.{is_of_keeper};
 ghost use Rattle.melon_machine.specs.State.{as_kept, kept_app, no_writers};
-ghost use Rattle.melon_machine.specs.Step.{place_of, open_fault, opens_under, open_step, close_step, row_count, stepped};
+ghost use Rattle.melon_machine.specs.Apps.{place_of, open_fault, opens_under, open_step, close_step, row_count};
+ghost use Rattle.melon_machine.specs.Outcomes.{stepped};
 ghost use Rattle.melon_world.specs.Handled.{IsHandled};
 
 use crate::app::App;

@@ -4,6 +4,7 @@
 pub mod app;
 pub mod apps;
 mod ids;
+pub mod kind;
 pub mod observer;
 pub mod observing;
 pub mod queueing;
@@ -11,6 +12,7 @@ pub mod reading;
 pub mod refusals;
 pub mod relating;
 mod shown;
+pub mod serving;
 pub mod turning;
 pub mod world;
 pub mod writing;

@@ -13,7 +13,8 @@ ghost use Rattle.melon_world.specs.Handled.{watch_shown};
 ghost use Rattle.melon_machine.specs.Calls.{Done};
 ghost use Rattle.melon_machine.specs.Refusals.{is_of_keeper};
 ghost use Rattle.melon_machine.specs.State.{as_kept, Answer, Owner, KeptObserver};
-ghost use Rattle.melon_machine.specs.Step.{told, stepped, on_app, place_in, taken_fault, unless_told, shape_in, with_place, with_table, watches, observes_as, observes, observe_app, watches_by, watches_id, watch_app, drops, drop_app};
+ghost use Rattle.melon_machine.specs.Apps.{told, on_app, place_in, taken_fault, unless_told, shape_in, with_place, with_table, watches, observes_as, observes, observe_app, watches_by, watches_id, watch_app, drops, drop_app};
+ghost use Rattle.melon_machine.specs.Outcomes.{stepped};
 
 use crate::app::App;
 use crate::apps::place_of;

@@ -6,7 +6,8 @@ ghost use Rattle.melon_queue.specs.Queues.{holds, entered, nested, quit};
 ghost use Rattle.melon_machine.specs.Calls.{Done};
 ghost use Rattle.melon_machine.specs.Refusals.{is_of_keeper};
 ghost use Rattle.melon_machine.specs.State.{as_kept};
-ghost use Rattle.melon_machine.specs.Step.{on_app, queue_fault, write_fault, enter_item, next_item, entered_as, nested_as, left_as, enter_app, nest_app, leave_app, told, stepped};
+ghost use Rattle.melon_machine.specs.Apps.{on_app, queue_fault, write_fault, enter_item, next_item, entered_as, nested_as, left_as, enter_app, nest_app, leave_app, told};
+ghost use Rattle.melon_machine.specs.Outcomes.{stepped};
 
 use crate::app::App;
 use crate::apps::place_of;

@@ -9,7 +9,8 @@ ghost use Rattle.melon_raw.specs.Encoding.{encoding};
 ghost use Rattle.melon_raw.specs.Rows.{table_at};
 ghost use Rattle.melon_machine.specs.Refusals.{is_of_keeper};
 ghost use Rattle.melon_machine.specs.State.{as_kept};
-ghost use Rattle.melon_machine.specs.Step.{place_of, on_app, looks, answered, fetched, rows_shown, encodings_at, stepped};
+ghost use Rattle.melon_machine.specs.Apps.{place_of, on_app, looks, answered, fetched, rows_shown, encodings_at};
+ghost use Rattle.melon_machine.specs.Outcomes.{stepped};
 ghost use Rattle.melon_machine.specs.Calls.{Done};
 
 use crate::app::App;

@@ -1,6 +1,6 @@
 //! The printed refusals, made of faults. Want of memory is never printed.
 ghost use Rattle.std.specs.Prelude.{◌≡◌, ◌≢◌, ◌∷◌, [], IfOk, false};
-ghost use Rattle.melon_machine.specs.Refusals.{refused, app_refusal, schema_refusal, query_refusal, writer_refusal, holder_detail, queue_refusal, is_of_keeper, table_refusal, keeper_refusal, shape_refusal, observer_refusal, relation_refusal, id_refusal, open_refusal, ops_refusal, record_refusal, column_refusal, batch_refusal, write_refusal};
+ghost use Rattle.melon_machine.specs.Refusals.{refused, app_refusal, backend_refusal, schema_refusal, query_refusal, writer_refusal, holder_detail, queue_refusal, is_of_keeper, table_refusal, keeper_refusal, shape_refusal, observer_refusal, relation_refusal, id_refusal, open_refusal, ops_refusal, record_refusal, column_refusal, batch_refusal, write_refusal};
 
 use melon_board::WriteFault;
 use melon_change::{BatchFault, OpsFault};
@@ -28,6 +28,13 @@ pub fn keeper_refusal(alloc: Global) -> Item
     ensures { result ≡ keeper_refusal }
 {
     refused(Group::Keeper, 1, List::new(alloc))
+}
+
+/// 1 already open, 2 not open. It takes no memory.
+pub fn backend_refusal(alloc: Global, number: u64) -> Item
+    ensures { result ≡ backend_refusal number }
+{
+    refused(Group::Backend, number, List::new(alloc))
 }
 
 /// 1 already open, 2 not open, 3 four are open, 4 a bad name.

@@ -6,7 +6,8 @@ ghost use Rattle.melon_relation.specs.Relations.{parent_told};
 ghost use Rattle.melon_machine.specs.Calls.{Done};
 ghost use Rattle.melon_machine.specs.Refusals.{is_of_keeper};
 ghost use Rattle.melon_machine.specs.State.{as_kept};
-ghost use Rattle.melon_machine.specs.Step.{stepped, on_app, looks, on_id, parent_item, parent_shown, children_item, children_shown};
+ghost use Rattle.melon_machine.specs.Apps.{on_app, looks, on_id, parent_item, parent_shown, children_item, children_shown};
+ghost use Rattle.melon_machine.specs.Outcomes.{stepped};
 
 use crate::app::App;
 use crate::apps::place_of;

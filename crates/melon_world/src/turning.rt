@@ -9,13 +9,14 @@ ghost use Rattle.melon_views.specs.Standing.{Stands};
 ghost use Rattle.melon_views.specs.Turns.{turns_from};
 ghost use Rattle.melon_relation.specs.Watching.{Watches, watch_turn};
 ghost use Rattle.melon_script.specs.SeenLine as lines;
-ghost use Rattle.melon_machine.specs.Calls.{Done};
-ghost use Rattle.melon_machine.specs.Legal.{IsLegalApp, IsKeptAs};
+ghost use Rattle.melon_machine.specs.Calls.{Done, with_end};
+ghost use Rattle.melon_machine.specs.Legal.{IsLegalApp, AreKeptAs};
 ghost use Rattle.melon_machine.specs.Refusals.{is_of_keeper};
 ghost use Rattle.melon_machine.specs.Showing.{answer_turn, owner_turns, turn_items};
-ghost use Rattle.melon_machine.specs.State.{App as MachineApp, Observer as MachineObserver, KeptObserver, State, Watch, kept_at, store_of, history_of, observer_kept, app_kept};
-ghost use Rattle.melon_machine.specs.Step.{ends_with, step, kept_told, kept_calls, turned, turns_at, turn_app, place_in};
-ghost use Rattle.melon_world.specs.Handled.{IsBounded, watch_bound, place_bound, app_bound, turn_bound, StandsAt, StandsOn, IsAppLeft, IsLeft, changed_items};
+ghost use Rattle.melon_machine.specs.State.{App as MachineApp, Observer as MachineObserver, KeptObserver, Watch, kept_at, store_of, history_of, observer_kept, app_kept};
+ghost use Rattle.melon_machine.specs.Apps.{kept_told, turned, turns_at, turn_app, place_in, app_step, kept_apps};
+ghost use Rattle.melon_machine.specs.Outcomes.{ends_with};
+ghost use Rattle.melon_world.specs.Handled.{IsBounded, watch_bound, place_bound, app_bound, turn_bound, StandsAt, StandsOn, IsAppLeft, AreLeft, changed_items};
 ghost use Rattle.melon_world.specs.Inside.{watch_in};
 
 use crate::app::App;
@@ -248,10 +249,10 @@ pub fn turn<L: Ledger>(
     observer: &Text,
     steps: &mut Steps<L>,
 ) -> Result<Answer, AllocError>
-    ensures turned { (m : State MachineApp) → IsKeptAs m (record { apps = apps.old.items })
-        → IfOk result (λ items. kept_calls (step m (lines.Turn app.now observer.now)) ≡ Done (ends_with (record { apps = apps.new.items }) items)) }
+    ensures turned { (machines : Sequence MachineApp) → AreKeptAs machines apps.old.items
+        → IfOk result (λ items. with_end kept_apps (app_step machines (lines.Turn app.now observer.now)) ≡ Done (ends_with apps.new.items items)) }
     ensures quiet { IfOk result (λ items. list_any is_of_keeper items ≡ false) }
-    ensures left { IsLeft (record { apps = apps.old.items }) (record { apps = apps.new.items }) }
+    ensures left { AreLeft apps.old.items apps.new.items }
     ensures cost { IfOk result (λ items. IsBounded (turn_bound apps.old.items app.now observer.now) steps.old steps.new) }
 {
     match place_of(apps.as_slice(), app.as_str()) {

@@ -5,37 +5,42 @@ ghost use Rattle.melon_board.specs.Carried.{HoldsAsBefore};
 ghost use Rattle.melon_script.specs.Seen.{seen};
 ghost use Rattle.melon_machine.specs.Refusals.{is_of_keeper};
 ghost use Rattle.melon_machine.specs.State.{none_open};
-ghost use Rattle.melon_machine.specs.Step.{step, plain_step, is_turn, stepped, ends_with};
-ghost use Rattle.melon_world.specs.Handled.{IsHandled, MeetsAs, IsTurn, IsBounded, line_bound, IsLeft};
+ghost use Rattle.melon_machine.specs.Outcomes.{stepped, ends_with};
+ghost use Rattle.melon_machine.specs.Apps.{plain_app_step};
+ghost use Rattle.melon_machine.specs.Step.{step, is_turn, is_of_server};
+ghost use Rattle.melon_world.specs.Handled.{IsHandled, MeetsAs, IsBounded, line_bound, IsLeft};
 
 use crate::app::App;
 use crate::apps::{close, open};
+use crate::kind::{LineKind, kind_of};
 use crate::observing::{drop_observer, observe, watch};
 use crate::queueing::{enter, leave, nest};
 use crate::reading::{fetch, rows};
 use crate::relating::{children, parent};
+use crate::serving::{open_backend, server_rows};
 use crate::turning::turn;
 use crate::writing::write;
+use melon_backend::Backend;
 use melon_outside::Keeper;
 use melon_raw::Steps;
-use melon_schema::Text;
 use melon_script::{Answer, Item, Line};
 use std::alloc::{AllocError, Global};
 use std::marker::Model;
 use std::sync::ledger::Ledger;
 
-/// The machine: the open apps.
+/// The machine: the open apps, and the server once it is open.
 #[derive(Drop)]
 pub struct World {
     apps: Vec<App>,
+    server: Option<Backend>,
 }
 
 impl Model for World {
     ghost use Rattle.std.specs.Coded.{codes};
     ghost use Rattle.melon_query.specs.contracts.query.Cond as cond;
-    ghost use Rattle.melon_machine.specs.State.{KeptApp, State};
+    ghost use Rattle.melon_machine.specs.State.{KeptMachine};
 
-    ghost Value = { State KeptApp };
+    ghost Value = { KeptMachine };
 
     ghost coded = { Prim.hlevel (codes, cond.the_row.coded) };
 
@@ -44,30 +49,8 @@ impl Model for World {
     ghost view = { world_in };
 }
 
-/// The app and the observer of a turn, where the line is one.
-fn turn_of(line: &Line) -> Option<(&Text, &Text)>
-    ensures { IsTurn (seen line.now) result }
-{
-    match line {
-        Line::Turn { app, name } => Some((app, name)),
-        Line::Open { .. } => None,
-        Line::Close { .. } => None,
-        Line::Enter { .. } => None,
-        Line::Nest { .. } => None,
-        Line::Leave { .. } => None,
-        Line::Write { .. } => None,
-        Line::Fetch { .. } => None,
-        Line::Rows { .. } => None,
-        Line::Observe { .. } => None,
-        Line::Watch { .. } => None,
-        Line::Drop { .. } => None,
-        Line::Parent { .. } => None,
-        Line::Children { .. } => None,
-    }
-}
-
-/// The item that a line prints which isn't a turn.
-#[tactic(auto, using(crate::proofs::Meeting::handled_quietly), unfolding(melon_machine::specs::Step::plain_step))]
+/// The item that a line of an app prints which isn't a turn.
+#[tactic(auto, using(crate::proofs::Meeting::handled_quietly), unfolding(melon_machine::specs::Apps::plain_app_step))]
 fn take<K: Keeper, N: Ledger>(
     apps: &mut Vec<App>,
     alloc: Global,
@@ -75,8 +58,9 @@ fn take<K: Keeper, N: Ledger>(
     line: &Line,
     steps: &mut Steps<N>,
 ) -> Result<Item, AllocError>
-    requires { is_turn (seen line.now) ≡ false }
-    ensures { IsHandled (plain_step apps.old.items (seen line.now)) (stepped apps.new.items) is_of_keeper (K.holds keeper.old) (K.holds keeper.new) (K.faults keeper.old) (K.faults keeper.new) apps.old.items apps.new.items result }
+    requires turns { is_turn (seen line.now) ≡ false }
+    requires server { is_of_server (seen line.now) ≡ false }
+    ensures { IsHandled (plain_app_step apps.old.items (seen line.now)) (stepped apps.new.items) is_of_keeper (K.holds keeper.old) (K.holds keeper.new) (K.faults keeper.old) (K.faults keeper.new) apps.old.items apps.new.items result }
 {
     match line {
         Line::Open { app, schema } => open(apps, alloc, keeper, app, schema),
@@ -111,16 +95,19 @@ fn take<K: Keeper, N: Ledger>(
         Line::Children { app, table, id, to } => {
             children(apps.as_slice(), alloc, app, table, id, to, steps)
         }
+        Line::Backend { .. } => unreachable!(),
+        Line::Server { .. } => unreachable!(),
     }
 }
 
 impl World {
-    /// The machine without open apps.
+    /// The machine without open apps and without a server.
     pub fn new(alloc: Global) -> World
         ensures { result ≡ none_open }
     {
         World {
             apps: Vec::new(alloc),
+            server: None,
         }
     }
 
@@ -140,9 +127,19 @@ impl World {
         ensures cause { IfOk result (λ items. list_any is_of_keeper items ≡ true → Rose (K.faults keeper.old) (K.faults keeper.new)) }
         ensures cost { IfOk result (λ _. IsBounded (line_bound self.old.apps (seen line.now)) steps.old steps.new) }
     {
-        match turn_of(line) {
-            Some((app, name)) => turn(&mut self.apps, alloc, app, name, steps),
-            None => {
+        match kind_of(line) {
+            LineKind::Turn(app, name) => turn(&mut self.apps, alloc, app, name, steps),
+            LineKind::Backend(schema) => {
+                let answer = Answer::new(alloc)?;
+                let item = open_backend(&mut self.server, alloc, keeper, schema)?;
+                Ok(answer.with_first(item))
+            }
+            LineKind::Server(table) => {
+                let answer = Answer::new(alloc)?;
+                let item = server_rows(&self.server, alloc, table)?;
+                Ok(answer.with_first(item))
+            }
+            LineKind::App => {
                 let answer = Answer::new(alloc)?;
                 let item = take(&mut self.apps, alloc, keeper, line, steps)?;
                 Ok(answer.with_first(item))

@@ -5,7 +5,8 @@ ghost use Rattle.melon_board.specs.Plans.{write_plan};
 ghost use Rattle.melon_change.specs.Forms.{ops_of};
 ghost use Rattle.melon_machine.specs.Refusals.{is_of_keeper};
 ghost use Rattle.melon_machine.specs.State.{as_kept};
-ghost use Rattle.melon_machine.specs.Step.{on_app, writes_by, writes, write_app, told, stepped};
+ghost use Rattle.melon_machine.specs.Apps.{on_app, writes_by, writes, write_app, told};
+ghost use Rattle.melon_machine.specs.Outcomes.{stepped};
 ghost use Rattle.melon_world.specs.Handled.{IsHandled, Tells};
 
 use crate::app::App;

@@ -1,7 +1,7 @@
 use Rattle.std.proofs.Common.{◌≡◌, ◌∙◌, subst, ap, ◌++◌, ◌∷◌, []}
 use Rattle.std.specs.Prelude.{Ok, Err}
 use Rattle.melon_board.specs.Carried.{Opens}
-use Rattle.melon_machine.specs.Step.{row_count}
+use Rattle.melon_machine.specs.Apps.{row_count}
 use Rattle.melon_table.specs.Seen.{rows_of}
 use Rattle.melon_world.proofs.Opened.{handled_ok, handled_err}
 use Rattle.melon_world.proofs.apps.open_under.Goals as goal

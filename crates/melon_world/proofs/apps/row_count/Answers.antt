@@ -3,7 +3,7 @@ use Rattle.std.specs.Prelude.{sum_by, option_map}
 use Rattle.std.proofs.lemmas.List.{length-map}
 use Rattle.std.proofs.lemmas.Option.{slice_get-map}
 use Rattle.melon_table.specs.Seen.{SeenTable, rows_of}
-use Rattle.melon_machine.specs.Step.{row_count}
+use Rattle.melon_machine.specs.Apps.{row_count}
 use Rattle.melon_world.proofs.Dropped.{count_more, past_all}
 use Rattle.melon_world.proofs.apps.row_count.Goals as goal
 

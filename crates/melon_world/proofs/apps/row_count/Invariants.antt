@@ -1,7 +1,7 @@
 use Rattle.std.proofs.Common.{◌≡◌, ◌+◌, ◌-◌, ◌^◌, ◌≤◌, min, drop, length}
 use Rattle.std.specs.Prelude.{sum_by}
 use Rattle.melon_table.specs.Seen.{rows_of}
-use Rattle.melon_machine.specs.Step.{row_count}
+use Rattle.melon_machine.specs.Apps.{row_count}
 use Rattle.melon_world.proofs.apps.row_count.Given as goal
 
 abbrev pub invariant-loop-place : goal.invariant-loop-place

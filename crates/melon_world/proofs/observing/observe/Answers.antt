@@ -2,7 +2,7 @@ use Rattle.std.proofs.Common.{◌≡◌, ◌∙◌}
 use Rattle.std.proofs.lemmas.Result.{IfOk-weaker}
 use Rattle.serde_json.specs.View.{view}
 use Rattle.melon_machine.specs.State.{as_kept}
-use Rattle.melon_machine.specs.Step.{place_of, observe_app}
+use Rattle.melon_machine.specs.Apps.{place_of, observe_app}
 use Rattle.melon_world.proofs.Meeting.{app_told}
 use Rattle.melon_world.proofs.observing.observe.Goals as goal
 

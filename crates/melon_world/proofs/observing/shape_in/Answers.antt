@@ -2,7 +2,7 @@ use Rattle.std.proofs.Common.{◌∙◌, ap, sym, option_map}
 use Rattle.melon_schema.specs.Json.{each}
 use Rattle.melon_schema.specs.Places.{column_named}
 use Rattle.melon_views.specs.declared.emission.Shape.TheVariants as shapes
-use Rattle.melon_machine.specs.Step.{shape_in}
+use Rattle.melon_machine.specs.Apps.{shape_in}
 use Rattle.melon_world.proofs.observing.shape_in.Goals as goal
 
 pub returns-in-Some : goal.returns-in-Some

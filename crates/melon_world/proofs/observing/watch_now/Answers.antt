@@ -2,7 +2,7 @@ use Rattle.std.proofs.Common.{◌≡◌, ◌∙◌, [], ◌∷◌, ◌++◌, ap,
 use Rattle.melon_relation.specs.Relations.{related}
 use Rattle.melon_script.specs.declared.item.Item.TheVariants as items
 use Rattle.melon_machine.specs.State.{KeptApp, kept_app, kept_observer, Owns, as_kept}
-use Rattle.melon_machine.specs.Step.{told, watches_by}
+use Rattle.melon_machine.specs.Apps.{told, watches_by}
 use Rattle.melon_world.proofs.Watched.{watch_told}
 use Rattle.melon_world.proofs.observing.watch_now.Goals as goal
 

@@ -1,7 +1,7 @@
 use Rattle.std.proofs.Common.{◌≡◌, ◌∙◌}
 use Rattle.std.proofs.lemmas.Result.{IfOk-weaker}
 use Rattle.melon_machine.specs.State.{as_kept}
-use Rattle.melon_machine.specs.Step.{place_of, enter_app}
+use Rattle.melon_machine.specs.Apps.{place_of, enter_app}
 use Rattle.melon_world.proofs.Meeting.{app_told}
 use Rattle.melon_world.proofs.queueing.enter.Goals as goal
 

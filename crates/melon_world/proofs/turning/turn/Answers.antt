@@ -3,7 +3,8 @@ use Rattle.std.proofs.lemmas.Result.{IfOk-weaker}
 use Rattle.melon_script.specs.declared.item.Item.{Item}
 use Rattle.melon_machine.specs.Calls.{Done}
 use Rattle.melon_machine.specs.State.{as_kept}
-use Rattle.melon_machine.specs.Step.{ends_with, place_of}
+use Rattle.melon_machine.specs.Apps.{place_of}
+use Rattle.melon_machine.specs.Outcomes.{ends_with}
 use Rattle.melon_world.specs.Handled.{IsBounded}
 use Rattle.melon_world.proofs.Turned.{line_bound_is, app_found, found_legal, turn_called, left_on, turn_missing}
 use Rattle.melon_world.proofs.turning.turn.Goals as goal
@@ -36,4 +37,4 @@ pub returns-in_ok-new-in-None-clause-turned : goal.returns-in_ok-new-in-None-cla
 returns-in_ok-new-in-None-clause-turned g c = λ m h.
     let none = c.in-None.ensures ∙ (λ i. place_of as_kept (c.as_str.ensures i) (c.as_slice.ensures.value i)) in
     let said = c.with_first.ensures ∙ ap (λ (item : Item). item ∷ []) c.in_ok-refusal-in-None.ensures in
-    turn_missing c.args.apps.now.items c.args.app.now c.args.observer.now m h none ∙ (λ i. Done (ends_with (record { apps = c.args.apps.now.items }) (sym said i)))
+    turn_missing c.args.apps.now.items c.args.app.now c.args.observer.now m h none ∙ (λ i. Done (ends_with c.args.apps.now.items (sym said i)))

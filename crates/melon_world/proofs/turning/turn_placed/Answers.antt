@@ -2,7 +2,7 @@ use Rattle.std.proofs.Common.{◌≡◌, ◌∷◌, [], ◌∙◌, set, map, ap,
 use Rattle.std.proofs.lemmas.Result.{IfOk-weaker}
 use Rattle.melon_script.specs.declared.item.Item.{Item}
 use Rattle.melon_machine.specs.State.{KeptObserver, KeptApp, kept_app, as_kept}
-use Rattle.melon_machine.specs.Step.{place_in}
+use Rattle.melon_machine.specs.Apps.{place_in}
 use Rattle.melon_world.specs.Handled.{app_bound, IsBounded, IsAppLeft}
 use Rattle.melon_world.proofs.Turned.{none_told, bound_is, found, within, turns_told, left_turned}
 use Rattle.melon_world.proofs.turning.turn_placed.Goals as goal

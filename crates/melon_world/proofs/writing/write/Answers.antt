@@ -1,7 +1,7 @@
 use Rattle.std.proofs.Common.{◌≡◌, ◌∙◌}
 use Rattle.serde_json.specs.View.{view}
 use Rattle.melon_machine.specs.State.{as_kept}
-use Rattle.melon_machine.specs.Step.{write_app, place_of}
+use Rattle.melon_machine.specs.Apps.{write_app, place_of}
 use Rattle.melon_world.proofs.Meeting.{on_app_handled}
 use Rattle.melon_world.proofs.writing.write.Goals as goal
 

@@ -2,7 +2,7 @@ use Rattle.std.proofs.Common.{subst}
 use Rattle.melon_board.specs.Plans.{write_plan}
 use Rattle.melon_machine.specs.Refusals.{is_of_keeper}
 use Rattle.melon_machine.specs.State.{KeptApp, kept_app, as_kept}
-use Rattle.melon_machine.specs.Step.{writes_by, told}
+use Rattle.melon_machine.specs.Apps.{writes_by, told}
 use Rattle.melon_world.specs.Handled.{IsHandled}
 use Rattle.melon_world.proofs.Written.{handled}
 use Rattle.melon_world.proofs.writing.write_ops.Goals as goal

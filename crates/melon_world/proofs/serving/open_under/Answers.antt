@@ -1,0 +1,15 @@
+use Rattle.std.proofs.Common.{◌≡◌, ◌∙◌, subst, ap}
+use Rattle.std.specs.Prelude.{Ok, Err}
+use Rattle.melon_backend.specs.Carried.{Opens}
+use Rattle.melon_world.proofs.Begun.{handled_ok, handled_err}
+use Rattle.melon_world.proofs.serving.open_under.Goals as goal
+
+pub returns-in-Ok : goal.returns-in-Ok
+returns-in-Ok g c =
+    handled_ok (g.K.Keeper.holds c.args.keeper.now) (g.K.Keeper.holds c.open.new.keeper) (g.K.Keeper.faults c.args.keeper.now) (g.K.Keeper.faults c.open.new.keeper) c.args.schema
+    c.args.server.now _ c.in-Ok.backend _ c.in-Ok.ensures.opens c.in-Ok.ensures.cause.later refl c.revision-revision.ensures
+
+pub returns-in-Err : goal.returns-in-Err
+returns-in-Err g c =
+    handled_err (g.K.Keeper.holds c.args.keeper.now) (g.K.Keeper.holds c.open.new.keeper) (g.K.Keeper.faults c.args.keeper.now) (g.K.Keeper.faults c.open.new.keeper) c.args.schema
+    c.args.server.now c.in-Err.fault c.open_refusal.result c.in-Err.ensures.opens c.in-Err.ensures.cause c.requires c.open_refusal.ensures.item c.open_refusal.ensures.memory
