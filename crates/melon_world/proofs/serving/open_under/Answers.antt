@@ -1,13 +1,12 @@
-use Rattle.std.proofs.Common.{◌≡◌, ◌∙◌, subst, ap}
-use Rattle.std.specs.Prelude.{Ok, Err}
-use Rattle.melon_backend.specs.Carried.{Opens}
+use Rattle.std.proofs.Common.{refl}
+use Rattle.std.specs.Prelude.{Some}
 use Rattle.melon_world.proofs.Begun.{handled_ok, handled_err}
 use Rattle.melon_world.proofs.serving.open_under.Goals as goal
 
 pub returns-in-Ok : goal.returns-in-Ok
 returns-in-Ok g c =
     handled_ok (g.K.Keeper.holds c.args.keeper.now) (g.K.Keeper.holds c.open.new.keeper) (g.K.Keeper.faults c.args.keeper.now) (g.K.Keeper.faults c.open.new.keeper) c.args.schema
-    c.args.server.now _ c.in-Ok.backend _ c.in-Ok.ensures.opens c.in-Ok.ensures.cause.later refl c.revision-revision.ensures
+    c.args.server.now (Some c.in-Ok.backend) c.in-Ok.backend c.revision-revision.result c.in-Ok.ensures.opens c.in-Ok.ensures.cause.later refl c.revision-revision.ensures
 
 pub returns-in-Err : goal.returns-in-Err
 returns-in-Err g c =
