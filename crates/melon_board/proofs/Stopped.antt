@@ -1,24 +1,18 @@
 -- What a stop leaves, from what the keeper's calls leave.
-use Rattle.std.proofs.Common.{◌≡◌, inl, inr, List, ℕ, Option, Some, None, Result, Ok, Err, IfOk, OnOk, ap, sym, subst}
+use Rattle.std.proofs.Common.{◌≡◌, List, ℕ, Option, Some, None, Result, Ok, Err, IfOk, OnOk, ap, sym, subst}
 use Rattle.melon_schema.specs.Seen.{SeenSchema}
 use Rattle.melon_outside.specs.declared.kept.Kept.{Kept}
 use Rattle.melon_outside.specs.declared.kept.KeptBatch.{KeptBatch}
 use Rattle.melon_outside.specs.declared.kept.OpenFault.{OpenFault}
 use Rattle.melon_outside.specs.declared.keeper.KeeperError.{KeeperError}
 use Rattle.melon_outside.specs.Keeping.{Stores, AreSame, IsLeft, Leaves}
+use Rattle.melon_outside.proofs.Stopped.{same_left}
 use Rattle.melon_board.specs.Stores.{SeenStore, store_key}
 use Rattle.melon_board.specs.Plans.{Plan, asked}
 use Rattle.melon_board.specs.Opening.{open_plan}
 use Rattle.melon_board.specs.Carried.{GoesOn, LeavesOpened}
 
-pub same_left : (batch : Option KeptBatch) (store : List ℕ) (was left : Stores) → AreSame left was → IsLeft batch store was left
-same_left None store was left same = same
-same_left (Some batch) store was left same = inl same
-
 -- where the keeper isn't asked
-pub quiet : (Holds MayLeave : Stores → Type 0) → ((m left : Stores) → Holds m → MayLeave left → AreSame left m) → (batch : Option KeptBatch) (store : List ℕ) → Leaves batch store Holds MayLeave
-quiet Holds MayLeave between batch store was h left l = same_left batch store was left (between was left h l)
-
 pub quiet_opened : (Holds MayLeave : Stores → Type 0) → ((m left : Stores) → Holds m → MayLeave left → AreSame left m) → (name : List ℕ) (schema : SeenSchema) → LeavesOpened Holds MayLeave name schema
 quiet_opened Holds MayLeave between name schema was h left l = same_left _ (store_key name) was left (between was left h l)
 

@@ -1,4 +1,4 @@
-use Rattle.melon_board.proofs.Stopped.{quiet}
+use Rattle.melon_outside.proofs.Stopped.{quiet}
 use Rattle.melon_board.proofs.store.commit_any.Goals as goal
 
 pub returns-in-None-clause-stops : goal.returns-in-None-clause-stops

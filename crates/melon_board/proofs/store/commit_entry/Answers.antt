@@ -1,5 +1,5 @@
 use Rattle.std.proofs.Common.{Some, string_bytes}
-use Rattle.melon_board.proofs.Stopped.{quiet}
+use Rattle.melon_outside.proofs.Stopped.{quiet}
 use Rattle.melon_board.proofs.store.commit_entry.Goals as goal
 
 pub returns-in_err-room-clause-stops : goal.returns-in_err-room-clause-stops

@@ -1,6 +1,6 @@
 use Rattle.melon_board.specs.Plans.{asked, install_plan}
 use Rattle.melon_board.specs.Stores.{store_key}
-use Rattle.melon_board.proofs.Stopped.{quiet}
+use Rattle.melon_outside.proofs.Stopped.{quiet}
 use Rattle.melon_board.proofs.store.Store.install.Goals as goal
 
 pub returns-then-is_empty-clause-stops : goal.returns-then-is_empty-clause-stops

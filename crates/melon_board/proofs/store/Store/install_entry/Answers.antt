@@ -1,7 +1,7 @@
 use Rattle.std.proofs.lemmas.Result.{err_from_is_err_and}
 use Rattle.melon_board.specs.Plans.{asked, entry_plan}
 use Rattle.melon_board.specs.Stores.{store_key, with_entry}
-use Rattle.melon_board.proofs.Stopped.{quiet}
+use Rattle.melon_outside.proofs.Stopped.{quiet}
 use Rattle.melon_board.proofs.Summed.{within_board, now_of_board, same_store, seen_with, summed, continued_with}
 use Rattle.melon_board.proofs.Written.{kept_fault, is_asked}
 use Rattle.melon_board.proofs.store.Store.install_entry.Goals as goal

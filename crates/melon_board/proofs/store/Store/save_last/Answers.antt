@@ -3,7 +3,7 @@ use Rattle.melon_outside.specs.declared.kept.KeptBatch.{KeptBatch}
 use Rattle.melon_outside.specs.Keeping.{Leaves}
 use Rattle.melon_board.specs.Batches.{last_batch}
 use Rattle.melon_board.specs.Stores.{SeenStore, store_key}
-use Rattle.melon_board.proofs.Stopped.{quiet}
+use Rattle.melon_outside.proofs.Stopped.{quiet}
 use Rattle.melon_board.proofs.store.Store.save_last.Goals as goal
 
 pub returns-in_err-batch-clause-stops : goal.returns-in_err-batch-clause-stops

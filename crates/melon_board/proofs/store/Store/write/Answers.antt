@@ -1,6 +1,6 @@
 use Rattle.melon_board.specs.Plans.{asked, write_plan}
 use Rattle.melon_board.specs.Stores.{store_key}
-use Rattle.melon_board.proofs.Stopped.{quiet}
+use Rattle.melon_outside.proofs.Stopped.{quiet}
 use Rattle.melon_board.proofs.Summed.{legal_batch}
 use Rattle.melon_board.proofs.store.Store.write.Goals as goal
 
