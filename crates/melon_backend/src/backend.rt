@@ -4,7 +4,7 @@ ghost use Rattle.melon_schema.specs.Faults.{Gives, Fails};
 ghost use Rattle.melon_raw.specs.Rows.{table_at};
 ghost use Rattle.melon_outside.specs.Causes.{HasCauseOf};
 ghost use Rattle.melon_outside.specs.Kept.{batched};
-ghost use Rattle.melon_outside.specs.Keeping.{Stores, Committed};
+ghost use Rattle.melon_outside.specs.Keeping.{Stores, Committed, Leaves};
 ghost use Rattle.melon_wire.specs.Forms.{names_ascend};
 ghost use Rattle.melon_wire.specs.Keys.{are_apart};
 ghost use Rattle.melon_wire.specs.Sent.{names_something};
@@ -344,6 +344,7 @@ impl Backend {
         ensures err { OnErr result (self.new ≡ self.old) }
         ensures fault { IfErr result IsOfKeeper }
         ensures kept { (m : Stores) → K.holds keeper.new m → (was : Stores) × K.holds keeper.old was × Committed (batched planned.batch) self.old.name result was m }
+        ensures stops { Leaves (Some planned.batch) self.old.name (K.holds keeper.old) (K.may_leave keeper.new) }
         ensures cause { HasCauseOf PushFault.KeeperFault (K.faults keeper.old) (K.faults keeper.new) result }
         ensures sound { IsSoundly (K.sound keeper.old) (K.sound keeper.new) (K.faults keeper.old) (K.faults keeper.new) PushFault.KeeperFault result }
     {
@@ -373,6 +374,7 @@ impl Backend {
         requires { names_ascend (λ t. t.table) changes.now.tables ≡ true }
         ensures pushed { IsPushed (push_plan self.old last changes.now) self.old self.new result }
         ensures kept { (m : Stores) → K.holds keeper.new m → (was : Stores) × K.holds keeper.old was × IsDoneOnOk (asked (push_plan self.old last changes.now)) self.old.name result was m }
+        ensures stops { Leaves (asked (push_plan self.old last changes.now)) self.old.name (K.holds keeper.old) (K.may_leave keeper.new) }
         ensures cause { HasCauseOf PushFault.KeeperFault (K.faults keeper.old) (K.faults keeper.new) result }
         ensures sound { IsSoundly (K.sound keeper.old) (K.sound keeper.new) (K.faults keeper.old) (K.faults keeper.new) PushFault.KeeperFault result }
     {
@@ -396,6 +398,7 @@ impl Backend {
         requires { names_ascend (λ t. t.table) changes.now.tables ≡ true }
         ensures pushed { IsPushed (push_plan self.old last changes.now) self.old self.new result }
         ensures kept { (m : Stores) → K.holds keeper.new m → (was : Stores) × K.holds keeper.old was × IsDoneOnOk (asked (push_plan self.old last changes.now)) self.old.name result was m }
+        ensures stops { Leaves (asked (push_plan self.old last changes.now)) self.old.name (K.holds keeper.old) (K.may_leave keeper.new) }
         ensures cause { HasCauseOf PushFault.KeeperFault (K.faults keeper.old) (K.faults keeper.new) result }
         ensures sound { IsSoundly (K.sound keeper.old) (K.sound keeper.new) (K.faults keeper.old) (K.faults keeper.new) PushFault.KeeperFault result }
         ensures verdict { (g : Log) → Stands g self.old → IsVerdict (verdict g last changes.now) result }

@@ -1,9 +1,9 @@
 //! Rows that are put into their tables, once the keeper has them.
-ghost use Rattle.std.specs.Prelude.{◌≡◌, ◌<◌, length, map, true, false, OnOk, OnErr, IfErr};
+ghost use Rattle.std.specs.Prelude.{◌≡◌, ◌<◌, length, map, true, false, Some, OnOk, OnErr, IfErr};
 ghost use Rattle.std.specs.List.{AllByRecursion};
 ghost use Rattle.melon_outside.specs.Causes.{HasCauseOf};
 ghost use Rattle.melon_outside.specs.Kept.{batched};
-ghost use Rattle.melon_outside.specs.Keeping.{Stores, Committed};
+ghost use Rattle.melon_outside.specs.Keeping.{Stores, Committed, Leaves};
 ghost use Rattle.melon_raw.specs.Rows.{is_key};
 ghost use Rattle.melon_wire.specs.Keys.{are_apart};
 ghost use Rattle.melon_backend.specs.Rows.{with_put, with_puts};
@@ -84,6 +84,7 @@ fn ask<K: Keeper>(
 ) -> Result<(), PushFault>
     ensures fault { IfErr result IsOfKeeper }
     ensures kept { (m : Stores) → K.holds keeper.new m → (was : Stores) × K.holds keeper.old was × Committed (batched batch.now) key.now result was m }
+    ensures stops { Leaves (Some batch.now) key.now (K.holds keeper.old) (K.may_leave keeper.new) }
     ensures cause { HasCauseOf PushFault.KeeperFault (K.faults keeper.old) (K.faults keeper.new) result }
     ensures sound { IsSoundly (K.sound keeper.old) (K.sound keeper.new) (K.faults keeper.old) (K.faults keeper.new) PushFault.KeeperFault result }
 {
@@ -112,6 +113,7 @@ pub(crate) fn commit_puts<K: Keeper>(
     ensures same_rows { OnErr result (tables_rows tables.new.items ≡ tables_rows tables.old.items) }
     ensures fault { IfErr result IsOfKeeper }
     ensures kept { (m : Stores) → K.holds keeper.new m → (was : Stores) × K.holds keeper.old was × Committed (batched batch.now) key.now result was m }
+    ensures stops { Leaves (Some batch.now) key.now (K.holds keeper.old) (K.may_leave keeper.new) }
     ensures cause { HasCauseOf PushFault.KeeperFault (K.faults keeper.old) (K.faults keeper.new) result }
     ensures sound { IsSoundly (K.sound keeper.old) (K.sound keeper.new) (K.faults keeper.old) (K.faults keeper.new) PushFault.KeeperFault result }
 {

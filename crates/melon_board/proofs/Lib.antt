@@ -9,6 +9,7 @@ pub mod Planned
 pub mod Histories
 pub mod Summed
 pub mod Written
+pub mod Stopped
 pub mod LaidOut
 pub mod Opens
 pub mod Finding

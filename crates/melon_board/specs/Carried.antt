@@ -6,7 +6,7 @@ use Rattle.melon_outside.specs.declared.kept.KeptBatch.{KeptBatch}
 use Rattle.melon_outside.specs.declared.kept.OpenFault.{OpenFault}
 use Rattle.melon_outside.specs.declared.kept.OpenFault.TheVariants as opening
 use Rattle.melon_outside.specs.Kept.{batched, is_in_order}
-use Rattle.melon_outside.specs.Keeping.{Stores, AreSame, Changes}
+use Rattle.melon_outside.specs.Keeping.{Stores, AreSame, Changes, IsLeft}
 use Rattle.melon_board.specs.declared.fault.WriteFault.{WriteFault}
 use Rattle.melon_board.specs.declared.fault.WriteFault.TheVariants.{Batch, StoreFull, SessionFull, KeeperFault, Memory}
 use Rattle.melon_board.specs.Stores.{SeenStore, store_key}
@@ -63,6 +63,15 @@ IsWritten plan was now (Err fault) = (plan ≡ Err fault) × (now ≡ was)
 pub record IsOver (before now : Stores → Type 0) (store : List ℕ) (kept : Kept) (batch : Option KeptBatch) : Type 0 where
   pub ordered : is_in_order kept ≡ true
   pub told : (m : Stores) → now m → (was : Stores) × before was × (kept ≡ was store) × IsDone batch store was m
+
+-- A store was loaded as kept from what was held, and an honest keeper holds that on.
+abbrev pub GoesOn : (Stores → Type 0) → (Stores → Type 0) → Type 0 → List ℕ → Kept → Type 0
+GoesOn before now honest store kept = honest → (was : Stores) → before was → now was × (kept ≡ was store)
+
+-- A stop leaves what was held, or that with all the values that an opening over it keeps.
+abbrev pub LeavesOpened : (Stores → Type 0) → (Stores → Type 0) → List ℕ → SeenSchema → Type 0
+LeavesOpened before may_leave name schema = (was : Stores) → before was → (left : Stores) → may_leave left
+    → IsLeft (asked (open_plan name schema (was (store_key name)))) (store_key name) was left
 
 -- what the keeper holds now it held before
 abbrev pub HoldsAsBefore : (Stores → Type 0) → (Stores → Type 0) → Type 0

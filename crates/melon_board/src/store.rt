@@ -3,7 +3,7 @@ ghost use Rattle.melon_raw.specs.Rows.{Rows};
 ghost use Rattle.melon_table.specs.Seen.{rows_of, columns_of, declared_columns};
 ghost use Rattle.melon_outside.specs.Causes.{HasCauseOf};
 ghost use Rattle.melon_outside.specs.Kept.{batched};
-ghost use Rattle.melon_outside.specs.Keeping.{Stores, Committed};
+ghost use Rattle.melon_outside.specs.Keeping.{Stores, Committed, Leaves};
 ghost use Rattle.melon_change.specs.History.{AreChanges, IsEntry};
 ghost use Rattle.melon_change.specs.Changes.{after_set};
 ghost use Rattle.melon_board.specs.Boards.{AreKept, are_within, AreNow};
@@ -14,7 +14,7 @@ ghost use Rattle.melon_board.specs.Plans.{entry_plan, install_plan, write_plan, 
 ghost use Rattle.melon_schema.specs.Faults.{Fails};
 ghost use Rattle.melon_board.specs.Opening.{open_plan};
 ghost use Rattle.melon_board.specs.Opened.{IsOfKept};
-ghost use Rattle.melon_board.specs.Carried.{IsDoneOnOk, IsSoundly, IsOfKeeper, Refuses, IsWritten, IsOver, HoldsAsBefore, Opens};
+ghost use Rattle.melon_board.specs.Carried.{GoesOn, LeavesOpened, IsDoneOnOk, IsSoundly, IsOfKeeper, Refuses, IsWritten, IsOver, HoldsAsBefore, Opens};
 
 use crate::WriteFault;
 use crate::board::Board;
@@ -101,6 +101,7 @@ fn commit_entry<K: Keeper>(
     ensures same_entries { OnErr result (board.new.entries ≡ board.old.entries) }
     ensures fault { IfErr result IsOfKeeper }
     ensures kept { (m : Stores) → K.holds keeper.new m → (was : Stores) × K.holds keeper.old was × Committed (batched planned.now.batch) (string_bytes planned.now.key) result was m }
+    ensures stops { Leaves (Some planned.now.batch) (string_bytes planned.now.key) (K.holds keeper.old) (K.may_leave keeper.new) }
     ensures cause { HasCauseOf WriteFault.KeeperFault (K.faults keeper.old) (K.faults keeper.new) result }
     ensures sound { IsSoundly (K.sound keeper.old) (K.sound keeper.new) (K.faults keeper.old) (K.faults keeper.new) WriteFault.KeeperFault result }
 {
@@ -118,6 +119,8 @@ fn commit_any<K: Keeper>(
     batch: &Option<KeptBatch>,
 ) -> Result<(), KeeperError>
     ensures kept { (m : Stores) → K.holds keeper.new m → (was : Stores) × K.holds keeper.old was × IsDoneOnOk batch.now key.now result was m }
+    ensures stops { Leaves batch.now key.now (K.holds keeper.old) (K.may_leave keeper.new) }
+    ensures was_honest { K.honest keeper.new → K.honest keeper.old }
     ensures cause { HasCauseOf KeeperError.Failed (K.faults keeper.old) (K.faults keeper.new) result }
     ensures sound { IsSoundly (K.sound keeper.old) (K.sound keeper.new) (K.faults keeper.old) (K.faults keeper.new) KeeperError.Failed result }
 {
@@ -131,6 +134,8 @@ fn commit_any<K: Keeper>(
 fn load_kept<K: Keeper>(alloc: Global, keeper: &mut K, key: &str) -> Result<Kept, KeeperError>
     ensures kept { IfOk result (λ kept. IsOver (K.holds keeper.old) (K.holds keeper.new) key.now kept None) }
     ensures held { HoldsAsBefore (K.holds keeper.old) (K.holds keeper.new) }
+    ensures stops { Leaves None key.now (K.holds keeper.old) (K.may_leave keeper.new) }
+    ensures goes_on { IfOk result (GoesOn (K.holds keeper.old) (K.holds keeper.new) (K.honest keeper.new) key.now) }
     ensures cause { HasCauseOf KeeperError.Failed (K.faults keeper.old) (K.faults keeper.new) result }
     ensures sound { IsSoundly (K.sound keeper.old) (K.sound keeper.new) (K.faults keeper.old) (K.faults keeper.new) KeeperError.Failed result }
 {
@@ -174,6 +179,7 @@ impl Store {
         schema: AppSchema,
     ) -> Result<Store, OpenFault>
         ensures opens { Opens (K.holds keeper.old) (K.holds keeper.new) name.now schema result }
+        ensures stops { LeavesOpened (K.holds keeper.old) (K.may_leave keeper.new) name.now schema }
         ensures cause { HasCauseOf OpenFault.KeeperFault (K.faults keeper.old) (K.faults keeper.new) result }
         ensures sound { IsSoundly (K.sound keeper.old) (K.sound keeper.new) (K.faults keeper.old) (K.faults keeper.new) OpenFault.KeeperFault result }
     {
@@ -225,6 +231,7 @@ impl Store {
     ) -> Result<u64, WriteFault>
         ensures written { IsWritten (write_plan self.old ops) self.old self.new result }
         ensures kept { (m : Stores) → K.holds keeper.new m → (was : Stores) × K.holds keeper.old was × IsDoneOnOk (asked (write_plan self.old ops)) (store_key self.old.name) result was m }
+        ensures stops { Leaves (asked (write_plan self.old ops)) (store_key self.old.name) (K.holds keeper.old) (K.may_leave keeper.new) }
         ensures cause { HasCauseOf WriteFault.KeeperFault (K.faults keeper.old) (K.faults keeper.new) result }
         ensures sound { IsSoundly (K.sound keeper.old) (K.sound keeper.new) (K.faults keeper.old) (K.faults keeper.new) WriteFault.KeeperFault result }
         ensures continues { (opening : Rows) → Continues opening self.old → Continues opening self.new }
@@ -244,6 +251,7 @@ impl Store {
         requires { AreChanges self.old.schema.tables self.old.rows origin set }
         ensures written { IsWritten (install_plan self.old origin set) self.old self.new result }
         ensures kept { (m : Stores) → K.holds keeper.new m → (was : Stores) × K.holds keeper.old was × IsDoneOnOk (asked (install_plan self.old origin set)) (store_key self.old.name) result was m }
+        ensures stops { Leaves (asked (install_plan self.old origin set)) (store_key self.old.name) (K.holds keeper.old) (K.may_leave keeper.new) }
         ensures cause { HasCauseOf WriteFault.KeeperFault (K.faults keeper.old) (K.faults keeper.new) result }
         ensures sound { IsSoundly (K.sound keeper.old) (K.sound keeper.new) (K.faults keeper.old) (K.faults keeper.new) WriteFault.KeeperFault result }
         ensures continues { (opening : Rows) → Continues opening self.old → Continues opening self.new }
@@ -283,6 +291,7 @@ impl Store {
         requires { IsEntry self.old.schema.tables self.old.rows entry }
         ensures written { IsWritten (entry_plan self.old entry) self.old self.new result }
         ensures kept { (m : Stores) → K.holds keeper.new m → (was : Stores) × K.holds keeper.old was × IsDoneOnOk (asked (entry_plan self.old entry)) (store_key self.old.name) result was m }
+        ensures stops { Leaves (asked (entry_plan self.old entry)) (store_key self.old.name) (K.holds keeper.old) (K.may_leave keeper.new) }
         ensures cause { HasCauseOf WriteFault.KeeperFault (K.faults keeper.old) (K.faults keeper.new) result }
         ensures sound { IsSoundly (K.sound keeper.old) (K.sound keeper.new) (K.faults keeper.old) (K.faults keeper.new) WriteFault.KeeperFault result }
         ensures continues { (opening : Rows) → Continues opening self.old → Continues opening self.new }
@@ -304,6 +313,7 @@ impl Store {
         ensures ok { OnOk result (self.new ≡ with_last at self.old) }
         ensures err { OnErr result (self.new ≡ self.old) }
         ensures kept { (m : Stores) → K.holds keeper.new m → (was : Stores) × K.holds keeper.old was × Committed (batched (last_batch at)) (store_key self.old.name) result was m }
+        ensures stops { Leaves (Some (last_batch at)) (store_key self.old.name) (K.holds keeper.old) (K.may_leave keeper.new) }
         ensures cause { HasCauseOf KeeperError.Failed (K.faults keeper.old) (K.faults keeper.new) result }
         ensures sound { IsSoundly (K.sound keeper.old) (K.sound keeper.new) (K.faults keeper.old) (K.faults keeper.new) KeeperError.Failed result }
         ensures continues { (opening : Rows) → Continues opening self.old → Continues opening self.new }

@@ -6,3 +6,4 @@ pub mod Keepers
 pub mod Order
 pub mod Places
 pub mod Steps
+pub mod Stopped

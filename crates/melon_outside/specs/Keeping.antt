@@ -1,14 +1,15 @@
 -- What a keeper holds under the names of stores, and what a commit makes of it.
-use Rattle.std.specs.Prelude.{◌≡◌, ℕ, Bool, true, not, ◌&&◌, if◌then◌else◌, List, [], ◌∷◌, bytes_eq, Result, Ok, Err}
+use Rattle.std.specs.Prelude.{◌≡◌, ◌⊎◌, ℕ, Bool, true, not, ◌&&◌, if◌then◌else◌, List, [], ◌∷◌, bytes_eq, Option, Some, None, Result, Ok, Err}
 use Rattle.std.specs.List.{list_all}
 use Rattle.melon_outside.specs.declared.kept.Kept.{Kept}
+use Rattle.melon_outside.specs.declared.kept.KeptBatch.{KeptBatch}
 use Rattle.melon_outside.specs.declared.kept.KeptStore.{KeptStore}
 use Rattle.melon_outside.specs.declared.kept.OpenFault.{OpenFault}
 use Rattle.melon_outside.specs.declared.kept.OpenFault.TheVariants as opening
 use Rattle.melon_outside.specs.declared.keeper.KeeperError.{KeeperError}
 use Rattle.melon_outside.specs.declared.keeper.KeeperError.TheVariants.{Memory, Failed}
 use Rattle.melon_outside.specs.Causes.{next_count}
-use Rattle.melon_outside.specs.Kept.{nothing, is_in_order}
+use Rattle.melon_outside.specs.Kept.{batched, nothing, is_in_order}
 use Rattle.melon_outside.specs.Memory.{fails_next, faults_after}
 
 -- what is kept under each name
@@ -26,6 +27,15 @@ Changes f store was now = (now store ≡ f (was store)) × ((other : List ℕ) �
 abbrev pub Committed : {T E : Type 0} → (Kept → Kept) → List ℕ → Result T E → Stores → Stores → Type 0
 Committed f store (Ok _) was now = Changes f store was now
 Committed f store (Err _) was now = AreSame now was
+
+-- what a stop may leave: what was held, or that with the whole batch, where one was asked
+abbrev pub IsLeft : Option KeptBatch → List ℕ → Stores → Stores → Type 0
+IsLeft None store was left = AreSame left was
+IsLeft (Some batch) store was left = AreSame left was ⊎ Changes (batched batch) store was left
+
+-- a stop as a call ends leaves what was held before it, or that with the whole batch that was asked
+abbrev pub Leaves : Option KeptBatch → List ℕ → (Stores → Type 0) → (Stores → Type 0) → Type 0
+Leaves asked store held may_leave = (was : Stores) → held was → (left : Stores) → may_leave left → IsLeft asked store was left
 
 -- a keeper's error, as an opening tells it
 abbrev pub open_fault_of : KeeperError → OpenFault

@@ -1,6 +1,6 @@
 //! What keeps rows and values under the names of stores.
 
-ghost use Rattle.std.specs.Prelude.{◌≡◌, ◌⊎◌, ℕ, ◌≤◌, true, IfOk, IsErrOf};
+ghost use Rattle.std.specs.Prelude.{◌≡◌, ◌⊎◌, ℕ, ◌≤◌, true, IfOk, OnOk, IsErrOf};
 ghost use Rattle.melon_outside.specs.Causes.{Rose};
 ghost use Rattle.melon_outside.specs.Kept.{batched, is_in_order};
 ghost use Rattle.melon_outside.specs.Keeping.{AreSame, Changes, Committed, Stores};
@@ -33,6 +33,9 @@ pub trait Keeper {
     /// A stop may leave this.
     ghost may_leave: { Self → Stores → Type 0 };
 
+    /// So far its disk gave back what was written.
+    ghost honest: { Self → Type 0 };
+
     /// How often it has failed.
     ghost faults: { Self → ℕ };
 
@@ -45,6 +48,7 @@ pub trait Keeper {
         ensures found { (m : Stores) → holds self.new m → IfOk result (λ kept. kept ≡ m store.now) }
         ensures ordered { IfOk result (λ kept. is_in_order kept ≡ true) }
         ensures leaves { (was : Stores) → holds self.old was → (m : Stores) → may_leave self.new m → AreSame m was }
+        ensures goes_on { OnOk result (honest self.new → (was : Stores) → holds self.old was → holds self.new was) }
         ensures later { faults self.old ≤ faults self.new }
         ensures cause { IsErrOf result KeeperError.Failed → Rose (faults self.old) (faults self.new) }
         ensures sound_stays { sound self.old → sound self.new }
@@ -55,6 +59,7 @@ pub trait Keeper {
     fn commit(&mut self, alloc: Global, store: &str, batch: &KeptBatch) -> Result<(), KeeperError>
         ensures done { (m : Stores) → holds self.new m → (was : Stores) × holds self.old was × Committed (batched batch.now) store.now result was m }
         ensures leaves { (was : Stores) → holds self.old was → (m : Stores) → may_leave self.new m → AreSame m was ⊎ Changes (batched batch.now) store.now was m }
+        ensures was_honest { honest self.new → honest self.old }
         ensures later { faults self.old ≤ faults self.new }
         ensures cause { IsErrOf result KeeperError.Failed → Rose (faults self.old) (faults self.new) }
         ensures sound_stays { sound self.old → sound self.new }
@@ -63,4 +68,10 @@ pub trait Keeper {
 
     /// What it holds is one contents.
     ghost one: { (k : Self) (a b : Stores) → holds k a → holds k b → AreSame a b };
+
+    /// Between calls a stop leaves what it holds.
+    ghost between: { (k : Self) (m left : Stores) → holds k m → may_leave k left → AreSame left m };
+
+    /// What a stop leaves is told of an honest keeper alone.
+    ghost honestly: { (k : Self) (left : Stores) → may_leave k left → honest k };
 }

@@ -111,11 +111,17 @@ impl Keeper for MemoryKeeper {
 
     ghost may_leave = { λ k m. AreSame m (find k.stores) };
 
+    ghost honest = { λ _. Unit {0} };
+
     ghost faults = { λ k. k.faults };
 
     ghost sound = { λ k. fails_later k.fails k.calls ≡ false };
 
     ghost one = { λ k a b p q store. p store ∙ sym (q store) };
+
+    ghost between = { λ k m left p q store. q store ∙ sym (p store) };
+
+    ghost honestly = { λ _ _ _. tt };
 
     fn load(&mut self, alloc: Global, store: &str) -> Result<Kept, KeeperError>
         ensures planned { IsErrOf result KeeperError.Failed ↔ IsTrue (call_fails self.old) }
@@ -125,6 +131,7 @@ impl Keeper for MemoryKeeper {
         ensures found { (m : Stores) → AreSame m (find self.new.stores) → IfOk result (λ kept. kept ≡ m store.now) }
         ensures ordered { IfOk result (λ kept. is_in_order kept ≡ true) }
         ensures leaves { (was : Stores) → AreSame was (find self.old.stores) → (m : Stores) → AreSame m (find self.new.stores) → AreSame m was }
+        ensures goes_on { OnOk result (Unit {0} → (was : Stores) → AreSame was (find self.old.stores) → AreSame was (find self.new.stores)) }
         ensures later { self.old.faults ≤ self.new.faults }
         ensures cause { IsErrOf result KeeperError.Failed → Rose self.old.faults self.new.faults }
         ensures sound_stays { fails_later self.old.fails self.old.calls ≡ false → fails_later self.new.fails self.new.calls ≡ false }
@@ -147,6 +154,7 @@ impl Keeper for MemoryKeeper {
         ensures unchanged { OnErr result (self.new ≡ after_call self.old self.old.stores) }
         ensures done { (m : Stores) → AreSame m (find self.new.stores) → (was : Stores) × AreSame was (find self.old.stores) × Committed (batched batch.now) store.now result was m }
         ensures leaves { (was : Stores) → AreSame was (find self.old.stores) → (m : Stores) → AreSame m (find self.new.stores) → AreSame m was ⊎ Changes (batched batch.now) store.now was m }
+        ensures was_honest { Unit {0} → Unit {0} }
         ensures later { self.old.faults ≤ self.new.faults }
         ensures cause { IsErrOf result KeeperError.Failed → Rose self.old.faults self.new.faults }
         ensures sound_stays { fails_later self.old.fails self.old.calls ≡ false → fails_later self.new.fails self.new.calls ≡ false }

@@ -1,6 +1,7 @@
 use Rattle.std.proofs.lemmas.Result.{err_from_is_err_and}
-use Rattle.melon_board.specs.Plans.{entry_plan}
-use Rattle.melon_board.specs.Stores.{with_entry}
+use Rattle.melon_board.specs.Plans.{asked, entry_plan}
+use Rattle.melon_board.specs.Stores.{store_key, with_entry}
+use Rattle.melon_outside.proofs.Stopped.{quiet}
 use Rattle.melon_board.proofs.Summed.{within_board, now_of_board, same_store, seen_with, summed, continued_with}
 use Rattle.melon_board.proofs.Written.{kept_fault, is_asked}
 use Rattle.melon_board.proofs.store.Store.install_entry.Goals as goal
@@ -24,3 +25,7 @@ invariant_of-self-2 g c = summed c.self.inside c.args.self.now c.self.view_is c.
 
 pub returns-clause-continues : goal.returns-clause-continues
 returns-clause-continues g c = continued_with c.self.inside c.args.self.now c.commit_entry.new.board c.args.entry c.self.view_is c.in_ok-commit_entry.ensures.rows c.in_ok-commit_entry.ensures.entries c.requires
+
+pub returns-in_err-planned-clause-stops : goal.returns-in_err-planned-clause-stops
+returns-in_err-planned-clause-stops g c =
+    quiet (g.K.Keeper.holds c.args.keeper.now) (g.K.Keeper.may_leave c.args.keeper.now) (g.met.K.Keeper.between c.args.keeper.now) (asked (entry_plan c.args.self.now c.args.entry)) (store_key c.args.self.now.name)
