@@ -195,15 +195,15 @@ step_lasts m line kept h = by_line (λ (l : SeenLine). LeavesSound (step m l) ke
       server = server_still m.server kept _ (elsewhere IsOfApp server_store app_apart (app_step m.apps l) (step_only m.apps l) kept outcomes) h.server;
     })))
     (λ json. ends_sound (stepped_as (with_server m)) (backend_step with_log m.server json) kept (λ outcomes.
-      let stays = backend_lasts kept h.apps.ordered m.server json h.server outcomes in
-      record {
-        apps = record {
-          ordered = stays.ordered;
-          different = h.apps.different;
-          apps = apps_still m.apps kept _ (λ name. elsewhere IsOfServer (store_key name) (server_apart name) (backend_step with_log m.server json) (backend_only m.server json) kept outcomes) h.apps.apps;
-        };
-        server = stays.sound;
-      }))
+    let stays = backend_lasts kept h.apps.ordered m.server json h.server outcomes in
+    record {
+      apps = record {
+        ordered = stays.ordered;
+        different = h.apps.different;
+        apps = apps_still m.apps kept _ (λ name. elsewhere IsOfServer (store_key name) (server_apart name) (backend_step with_log m.server json) (backend_only m.server json) kept outcomes) h.apps.apps;
+      };
+      server = stays.sound;
+    }))
     (λ table outcomes. h) line
 
 lines_last : (forms : List SeenLine) (m : Machine) (kept : Stores) (outcomes : List Bool) → IsSound m kept → IsSound (run_from m kept forms outcomes).after (run_from m kept forms outcomes).kept

@@ -11,11 +11,14 @@ use melon_wire::read_changes;
 use std::alloc::Global;
 use std::test::Fail;
 
-const SCHEMA: &str = r#"{"version":1,"tables":[{"name":"tags","columns":[{"name":"label","type":"string"}]},{"name":"posts","columns":[{"name":"title","type":"string"}]}]}"#;
+const SCHEMA: &str =
+    r#"{"version":1,"tables":[{"name":"tags","columns":[{"name":"label","type":"string"}]},{"name":"posts","columns":[{"name":"title","type":"string"}]}]}"#;
 
-const BACKEND: &str = r#"{"do":"backend","schema":{"version":1,"tables":[{"name":"tags","columns":[{"name":"label","type":"string"}]},{"name":"posts","columns":[{"name":"title","type":"string"}]}]}}"#;
+const BACKEND: &str =
+    r#"{"do":"backend","schema":{"version":1,"tables":[{"name":"tags","columns":[{"name":"label","type":"string"}]},{"name":"posts","columns":[{"name":"title","type":"string"}]}]}}"#;
 
-const LATER: &str = r#"{"do":"backend","schema":{"version":2,"tables":[{"name":"posts","columns":[{"name":"title","type":"string"}]}]}}"#;
+const LATER: &str =
+    r#"{"do":"backend","schema":{"version":2,"tables":[{"name":"posts","columns":[{"name":"title","type":"string"}]}]}}"#;
 
 const NO_SCHEMA: &str = r#"{"do":"backend","schema":{"version":0,"tables":[]}}"#;
 
@@ -75,7 +78,8 @@ fn pushed_twice(alloc: Global) -> Result<MemoryKeeper, Fail> {
     let Ok(mut backend) = Backend::open(alloc, &mut keeper, "backend", schema) else {
         return Err(Fail::from("the backend isn't opened"));
     };
-    let first = r#"{"posts":{"created":[{"id":"p2","title":"b"},{"id":"p1","title":"a"}],"updated":[],"deleted":[]},"tags":{"created":[{"id":"t1","label":"x"}],"updated":[],"deleted":[]}}"#;
+    let first =
+        r#"{"posts":{"created":[{"id":"p2","title":"b"},{"id":"p1","title":"a"}],"updated":[],"deleted":[]},"tags":{"created":[{"id":"t1","label":"x"}],"updated":[],"deleted":[]}}"#;
     push(alloc, &mut keeper, &mut backend, 1, first)?;
     let second = r#"{"posts":{"created":[],"updated":[{"id":"p2","title":"c"}],"deleted":["p1"]}}"#;
     push(alloc, &mut keeper, &mut backend, 2, second)?;
@@ -89,7 +93,8 @@ fn a_servers_rows_are_shown_as_they_are_kept(rt: HostRuntime) -> Result<(), Fail
     let bytes = script(alloc, &[BACKEND, POSTS, TAGS])?;
     let (ended, text) = ends_over(alloc, &["run"], bytes, &CALM, &mut keeper)?;
     assert_eq!(rt; ended, Status::Done);
-    let want = "backend revision 3\nserver posts revision 3 [{\"changed\":2,\"created\":2,\"deleted\":3,\"row\":{\"id\":\"p1\"}},{\"changed\":3,\"created\":2,\"deleted\":null,\"row\":{\"id\":\"p2\",\"title\":\"c\"}}]\nserver tags revision 3 [{\"changed\":2,\"created\":2,\"deleted\":null,\"row\":{\"id\":\"t1\",\"label\":\"x\"}}]\n";
+    let want =
+        "backend revision 3\nserver posts revision 3 [{\"changed\":2,\"created\":2,\"deleted\":3,\"row\":{\"id\":\"p1\"}},{\"changed\":3,\"created\":2,\"deleted\":null,\"row\":{\"id\":\"p2\",\"title\":\"c\"}}]\nserver tags revision 3 [{\"changed\":2,\"created\":2,\"deleted\":null,\"row\":{\"id\":\"t1\",\"label\":\"x\"}}]\n";
     assert_eq!(rt; text.as_str(), want);
     let bytes = script(alloc, &[LATER])?;
     let (_, text) = ends_over(alloc, &["run"], bytes, &CALM, &mut keeper)?;

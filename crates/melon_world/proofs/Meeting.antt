@@ -1,14 +1,13 @@
 -- Calls that a keeper met.
-use Rattle.std.proofs.Common.{◌≡◌, ◌≢◌, ℕ, zero, suc, ◌+◌, ◌≤◌, ◌<◌, List, [], ◌∷◌, ◌++◌, Bool, true, false, length, set, get_or, refl, ap, sym, ◌∙◌, subst, arith}
-use Rattle.std.specs.Prelude.{Option, Some, None, Result, Ok, Err, slice_get, IfOk, OnErr, position, bytes_eq}
+use Rattle.std.proofs.Common.{◌≡◌, ℕ, zero, suc, ◌≤◌, ◌<◌, List, [], ◌∷◌, Bool, true, false, length, set, get_or, refl, ap, sym, ◌∙◌, subst, arith}
+use Rattle.std.specs.Prelude.{Option, Some, None, Result, Ok, Err, slice_get, IfOk, OnErr, bytes_eq}
 use Rattle.std.proofs.lemmas.List.{set-get_or}
 use Rattle.std.proofs.lemmas.List.Quantifiers.{position-Some}
-use Rattle.melon_outside.specs.Causes.{Rose}
 use Rattle.melon_outside.specs.Keeping.{Stores, AreSame}
 use Rattle.melon_outside.specs.declared.kept.KeptBatch.{KeptBatch}
 use Rattle.melon_board.specs.Carried.{IsDone, HoldsAsBefore}
 use Rattle.melon_script.specs.declared.item.Item.{Item}
-use Rattle.melon_machine.specs.Calls.{Calls, Done, Load, Commit, asks, with_end, failures, RoseBy, after_batch, Follows, Meets}
+use Rattle.melon_machine.specs.Calls.{Calls, Done, Load, Commit, asks, with_end, failures, after_batch, Follows, Meets}
 use Rattle.melon_machine.specs.Refusals.{is_of_keeper, app_refusal}
 use Rattle.melon_machine.specs.State.{KeptApp, as_kept}
 use Rattle.melon_machine.specs.Apps.{Told, told, put_back, on_app, on_place, on_found, place_of}

@@ -1,10 +1,10 @@
 -- A store that was opened or refused.
-use Rattle.std.proofs.Common.{◌≡◌, ◌≢◌, ℕ, ◌+◌, ◌≤◌, List, [], ◌∷◌, ◌++◌, Bool, true, false, length, refl, ap, sym, ◌∙◌, subst, arith}
-use Rattle.std.specs.Prelude.{Option, Some, None, Result, Ok, Err, IfOk, OnErr}
+use Rattle.std.proofs.Common.{◌≡◌, ◌≢◌, ℕ, ◌≤◌, List, [], ◌∷◌, ◌++◌, true, false, refl, ap, sym, ◌∙◌, subst, arith}
+use Rattle.std.specs.Prelude.{None, Result, Ok, Err, IfOk}
 use Rattle.melon_schema.specs.Seen.{SeenSchema}
 use Rattle.melon_outside.specs.Causes.{Rose, HasCauseOf}
 use Rattle.melon_outside.specs.Kept.{is_in_order}
-use Rattle.melon_outside.specs.Keeping.{Stores, AreSame}
+use Rattle.melon_outside.specs.Keeping.{Stores}
 use Rattle.melon_outside.specs.declared.kept.Kept.{Kept}
 use Rattle.melon_outside.specs.declared.kept.OpenFault.{OpenFault}
 use Rattle.melon_outside.specs.declared.kept.OpenFault.TheVariants.{BadRow, Version, Full, KeeperFault, Memory}
@@ -14,11 +14,11 @@ use Rattle.melon_board.specs.Plans.{Plan, asked}
 use Rattle.melon_board.specs.Stores.{SeenStore, store_key}
 use Rattle.melon_script.specs.declared.item.Item.{Item}
 use Rattle.melon_script.specs.declared.item.Item.TheVariants as items
-use Rattle.melon_machine.specs.Calls.{Calls, Done, Load, asks, failures, RoseBy, Follows, Meets}
+use Rattle.melon_machine.specs.Calls.{Follows, Meets}
 use Rattle.melon_machine.specs.Refusals.{is_of_keeper, open_refusal, keeper_refusal}
 use Rattle.melon_machine.specs.State.{KeptApp, kept_app, no_writers, as_kept}
-use Rattle.melon_machine.specs.Apps.{row_count, with_opened, opens_by, opens_over, opens_under}
-use Rattle.melon_machine.specs.Outcomes.{Stepped, stepped}
+use Rattle.melon_machine.specs.Apps.{row_count, with_opened, opens_by, opens_under}
+use Rattle.melon_machine.specs.Outcomes.{stepped}
 use Rattle.melon_machine.proofs.Followed.{rose_none}
 use Rattle.melon_world.specs.Handled.{IsHandled}
 use Rattle.melon_world.proofs.Meeting.{asks_done}

@@ -1,5 +1,5 @@
 -- A step of every machine that the code has so.
-use Rattle.std.proofs.Common.{◌≡◌, ℕ, ◌≤◌, List, [], ◌∷◌, false, refl, sym, ap, ◌∙◌, subst, arith}
+use Rattle.std.proofs.Common.{◌≡◌, ℕ, List, [], ◌∷◌, false, refl, sym, ap, ◌∙◌, subst, arith}
 use Rattle.std.specs.Prelude.{Option, Result, Ok, Err, IfOk}
 use Rattle.std.proofs.lemmas.Result.{IfOk-weaker}
 use Rattle.serde_json.specs.Data.{Data}
@@ -40,12 +40,12 @@ module _ (apps : List KeptApp) (server : Option SeenBackend) where
       → IfOk result (λ items. MeetsAs (λ m. step m line) w holds holds count count (ends_with (record { apps = left; server = server }) items))
   turned_as line left holds count result apart turns =
       quietly_as (λ m. step m line) w (record { apps = left; server = server }) holds count result (λ machine h.
-        IfOk-weaker result _ _ (λ items is.
-          ap kept_calls (app_line machine line apart)
-          ∙ sym (apps_twice machine (app_step machine.apps line))
-          ∙ ap (of_apps (kept_of machine)) is
-          ∙ (λ i. Done (ends_with (record { apps = left; server = (h.same i).server }) items)))
-        (turns machine.apps (record { same = ap (λ (k : KeptMachine). k.apps) h.same; legal = h.legal.apps })))
+      IfOk-weaker result _ _ (λ items is.
+      ap kept_calls (app_line machine line apart)
+      ∙ sym (apps_twice machine (app_step machine.apps line))
+      ∙ ap (of_apps (kept_of machine)) is
+      ∙ (λ i. Done (ends_with (record { apps = left; server = (h.same i).server }) items)))
+      (turns machine.apps (record { same = ap (λ (k : KeptMachine). k.apps) h.same; legal = h.legal.apps })))
 
   -- a line that isn't a turn
   plain_as : (line : SeenLine) (before now : Stores → Type 0) (count count' : ℕ) (end : Stepped KeptMachine) → is_turn line ≡ false → Meets (plain_step w line) before now count count' end

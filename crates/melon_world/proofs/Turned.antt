@@ -1,20 +1,19 @@
 -- An app in which an observer takes its turns.
-use Rattle.std.proofs.Common.{◌≡◌, ℕ, zero, suc, ◌+◌, ◌≤◌, List, [], ◌∷◌, map, length, get_or, set, Bool, true, false, position, bytes_eq, ◌⊎◌, inl, inr, refl, sym, ap, ◌∙◌, subst, arith}
+use Rattle.std.proofs.Common.{◌≡◌, ℕ, zero, suc, ◌≤◌, List, [], ◌∷◌, map, length, get_or, set, true, false, bytes_eq, inl, inr, refl, sym, ap, ◌∙◌, subst, arith}
 use Rattle.std.specs.Prelude.{Option, Some, None, option_map, slice_get, if◌then◌else◌}
 use Rattle.std.specs.List.{AllByRecursion}
 use Rattle.std.proofs.lemmas.List.{map-set}
 use Rattle.std.proofs.lemmas.Option.{slice_get-map}
 use Rattle.melon_schema.specs.Names.{is_id}
-use Rattle.melon_board.specs.Stores.{SeenStore}
 use Rattle.melon_script.specs.SeenLine as lines
 use Rattle.melon_script.specs.declared.item.Item.{Item}
-use Rattle.melon_machine.specs.Calls.{Calls, Done, with_end}
-use Rattle.melon_machine.specs.Legal.{IsLegalApp, AreLegal, AreKeptAs}
+use Rattle.melon_machine.specs.Calls.{Done, with_end}
+use Rattle.melon_machine.specs.Legal.{IsLegalApp, AreKeptAs}
 use Rattle.melon_machine.specs.Refusals.{app_refusal, observer_refusal}
 use Rattle.melon_machine.specs.Showing.{turn_items}
 use Rattle.melon_machine.specs.State.{App, Observer, named, observed_by, history_of, store_of, KeptObserver, KeptApp, kept_app, observer_kept, app_kept, with_history, as_kept, apps_kept}
-use Rattle.melon_machine.specs.Apps.{Told, told, put_back, place_of, on_found, on_place, place_in, turned, turns_of, turns_at, turn_app, app_step, kept_told, kept_apps}
-use Rattle.melon_machine.specs.Outcomes.{Stepped, stepped, ends_with}
+use Rattle.melon_machine.specs.Apps.{Told, told, place_of, on_found, on_place, place_in, turned, turns_of, turns_at, turn_app, app_step, kept_told, kept_apps}
+use Rattle.melon_machine.specs.Outcomes.{stepped, ends_with}
 use Rattle.melon_machine.proofs.Legality.{legal_set, observed_legal, within_set}
 use Rattle.melon_machine.proofs.Simulated.{names_same, place_same, legal_at}
 use Rattle.melon_world.specs.Handled.{watch_bound, observer_bound, place_bound, app_bound, apps_bound, turn_bound, IsAppLeft, AreTurnedOn, StandsAt}

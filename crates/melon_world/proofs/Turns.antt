@@ -1,9 +1,8 @@
 -- Turns of observers.
-use Rattle.std.proofs.Common.{◌≡◌, ℕ, ◌≤◌, le_refl, List, [], ◌∷◌, map, length, get_or, slice_get, set, Bool, true, false, ◌⊎◌, inl, inr, refl, sym, ap, ◌∙◌, subst, arith}
-use Rattle.std.specs.Prelude.{Option, Some, None, Result, Ok, Err, IfOk}
+use Rattle.std.proofs.Common.{◌≡◌, ℕ, ◌≤◌, List, [], ◌∷◌, map, length, false, refl, sym, ap, ◌∙◌, subst, arith}
+use Rattle.std.specs.Prelude.{Result, Ok, Err, IfOk}
 use Rattle.std.specs.List.{list_any}
 use Rattle.melon_schema.specs.declared.schema.TableSchema.{TableSchema}
-use Rattle.melon_raw.specs.Rows.{Rows}
 use Rattle.melon_table.specs.Seen.{rows_of}
 use Rattle.melon_change.specs.declared.history.Entry.{Entry}
 use Rattle.melon_change.specs.History.{History, replay}
@@ -16,7 +15,7 @@ use Rattle.melon_views.specs.declared.emission.Turn.TheVariants.{Emit, Still}
 use Rattle.melon_views.specs.Laws.{IsHistory}
 use Rattle.melon_views.specs.Standing.{Observed, Stands}
 use Rattle.melon_observe.specs.Journals.{history, Follows}
-use Rattle.melon_relation.specs.Watching.{Watched, Watches, IsJournal}
+use Rattle.melon_relation.specs.Watching.{Watched, Watches}
 use Rattle.melon_machine.specs.Legal.{IsLegalApp}
 use Rattle.melon_machine.specs.Refusals.{is_of_keeper}
 use Rattle.melon_machine.specs.Showing.{answer_turn}
@@ -25,7 +24,7 @@ use Rattle.melon_views.specs.Views.{view}
 use Rattle.melon_relation.specs.Watching.{parent_view, watch_turn}
 use Rattle.melon_script.specs.declared.item.Item.{Item}
 use Rattle.melon_machine.specs.Showing.{owner_turns, turn_items}
-use Rattle.melon_machine.specs.State.{App, Watch, Answer, Owner, KeptWatch, Answers, Owns, kept_at, store_of, history_of}
+use Rattle.melon_machine.specs.State.{App, Watch, Answer, Owner, Answers, Owns, kept_at, store_of, history_of}
 use Rattle.melon_world.specs.Handled.{StandsOn}
 
 -- two things that hold of a value

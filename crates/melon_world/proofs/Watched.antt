@@ -1,5 +1,5 @@
 -- A watch that was opened on a store.
-use Rattle.std.proofs.Common.{◌≡◌, ℕ, List, [], ◌∷◌, ◌++◌, length, refl, sym, ap, ◌∙◌, arith}
+use Rattle.std.proofs.Common.{◌≡◌, ℕ, List, [], ◌∷◌, ◌++◌, length, sym, arith}
 use Rattle.std.specs.Prelude.{Result, Ok, Err}
 use Rattle.melon_schema.specs.Faults.{◌>>=◌}
 use Rattle.melon_relation.specs.declared.fault.RelationFault.{RelationFault}

@@ -1,23 +1,22 @@
 -- A batch that was written or refused.
-use Rattle.std.proofs.Common.{◌≡◌, ◌≢◌, ℕ, ◌+◌, ◌≤◌, List, [], ◌∷◌, Bool, true, false, length, refl, ap, sym, ◌∙◌, subst, arith}
-use Rattle.std.specs.Prelude.{Option, Some, None, Result, Ok, Err, IfOk, OnErr}
+use Rattle.std.proofs.Common.{◌≡◌, ◌≢◌, ℕ, ◌≤◌, List, [], ◌∷◌, true, false, length, refl, ap, sym, ◌∙◌, subst, arith}
+use Rattle.std.specs.Prelude.{Option, Some, Result, Ok, Err}
 use Rattle.melon_outside.specs.Causes.{Rose, HasCauseOf}
-use Rattle.melon_outside.specs.Keeping.{Stores, AreSame}
+use Rattle.melon_outside.specs.Keeping.{Stores}
 use Rattle.melon_outside.specs.declared.kept.KeptBatch.{KeptBatch}
-use Rattle.melon_change.specs.declared.op.Op.{Op}
 use Rattle.melon_change.specs.declared.rule.BatchFault.{BatchFault}
 use Rattle.melon_change.specs.declared.rule.BatchFault.TheVariants as rules
-use Rattle.melon_board.specs.Carried.{IsDone, IsDoneOnOk, IsWritten, HoldsAsBefore}
+use Rattle.melon_board.specs.Carried.{IsDoneOnOk, IsWritten, HoldsAsBefore}
 use Rattle.melon_board.specs.Plans.{Plan, asked}
 use Rattle.melon_board.specs.Stores.{SeenStore, store_key}
 use Rattle.melon_board.specs.declared.fault.WriteFault.{WriteFault}
 use Rattle.melon_board.specs.declared.fault.WriteFault.TheVariants.{Batch, StoreFull, SessionFull, KeeperFault, Memory}
 use Rattle.melon_script.specs.declared.item.Item.{Item}
 use Rattle.melon_script.specs.declared.item.Item.TheVariants as items
-use Rattle.melon_machine.specs.Calls.{Calls, Done, asks, failures, RoseBy, Follows, Meets}
+use Rattle.melon_machine.specs.Calls.{Done, asks, RoseBy, Follows, Meets}
 use Rattle.melon_machine.specs.Refusals.{is_of_keeper, write_refusal, batch_refusal, keeper_refusal}
 use Rattle.melon_machine.specs.State.{KeptApp, kept_app, as_kept}
-use Rattle.melon_machine.specs.Apps.{Told, told, writes_by}
+use Rattle.melon_machine.specs.Apps.{told, writes_by}
 use Rattle.melon_machine.proofs.Followed.{rose_none}
 use Rattle.melon_world.specs.Handled.{IsHandled, Tells}
 use Rattle.melon_world.proofs.Meeting.{asks_done, asks_failed, met_quietly}

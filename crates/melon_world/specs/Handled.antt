@@ -1,6 +1,5 @@
 -- What a handler of a line answered and left.
-use Rattle.std.specs.Prelude.{◌≡◌, ◌≢◌, ◌≤◌, ◌+◌, ◌⊎◌, ℕ, List, [], ◌∷◌, length, map, set, slice_get, Bool, true, false, Option, Some, None, option_and_then, Result, Ok, Err, IfOk, OnErr, if◌then◌else◌}
-use Rattle.std.specs.List.{list_any}
+use Rattle.std.specs.Prelude.{◌≡◌, ◌≢◌, ◌≤◌, ◌+◌, ◌⊎◌, ℕ, List, [], ◌∷◌, length, map, set, slice_get, Bool, true, false, Option, Some, None, Result, Ok, Err, IfOk, OnErr, if◌then◌else◌}
 use Rattle.melon_outside.specs.Causes.{Rose}
 use Rattle.melon_outside.specs.Keeping.{Stores}
 use Rattle.melon_board.specs.Carried.{HoldsAsBefore}
@@ -26,14 +25,14 @@ use Rattle.melon_script.specs.SeenLine.{SeenLine}
 use Rattle.melon_script.specs.declared.item.Given.{Given}
 use Rattle.melon_world.specs.declared.kind.LineKind.{LineKind}
 use Rattle.melon_world.specs.declared.kind.LineKind.TheVariants as kinds
-use Rattle.melon_machine.specs.Legal.{IsLegalApp, AreKeptAs, IsKeptAs}
+use Rattle.melon_machine.specs.Legal.{AreKeptAs, IsKeptAs}
 use Rattle.melon_machine.specs.Showing.{given_parent}
 use Rattle.melon_machine.specs.State.{App, Observer, named, observed_by, history_of, Watch, kept_at, KeptWatch, Answers, Owns, KeptObserver, KeptApp, Machine, KeptMachine, as_kept, observer_kept, app_kept}
 use Rattle.melon_machine.specs.Apps.{place_of, place_in}
 use Rattle.melon_machine.specs.Outcomes.{Stepped}
 use Rattle.melon_machine.specs.Step.{kept_calls, is_turn, is_of_server}
 use Rattle.melon_machine.specs.Calls.{Calls, Follows, failures, RoseBy, Meets}
-use Rattle.melon_machine.specs.Refusals.{is_of_keeper, write_refusal}
+use Rattle.melon_machine.specs.Refusals.{write_refusal}
 
 -- A batch that was made is told with the journal's length; a refusal is told, unless memory runs out.
 abbrev pub Tells : {E : Type 0} → List ℕ → Result ℕ WriteFault → Result Item E → Type 0

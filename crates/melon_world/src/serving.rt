@@ -74,11 +74,7 @@ pub fn open_backend<K: Keeper>(
 }
 
 /// The rows of a declared table, as they stand on the server.
-fn rows_shown(
-    server: &Backend,
-    alloc: Global,
-    table: &Text,
-) -> Result<Item, AllocError>
+fn rows_shown(server: &Backend, alloc: Global, table: &Text) -> Result<Item, AllocError>
     ensures item { IfOk result (λ item. item ≡ on_table table.now (server_rows_shown with_rows server.now table.now) (table_named table.now server.now.schema.tables)) }
     ensures quiet { IfOk result (λ item. is_of_keeper item ≡ false) }
 {

@@ -1,4 +1,4 @@
-use Rattle.std.proofs.Common.{◌≡◌, ◌∙◌, subst, ap, ◌++◌, ◌∷◌, []}
+use Rattle.std.proofs.Common.{◌∙◌, subst, ap, ◌++◌, ◌∷◌, []}
 use Rattle.std.specs.Prelude.{Ok, Err}
 use Rattle.melon_board.specs.Carried.{Opens}
 use Rattle.melon_machine.specs.Apps.{row_count}

@@ -1,9 +1,9 @@
-use Rattle.std.proofs.Common.{◌≡◌, ◌∙◌, map, ap}
+use Rattle.std.proofs.Common.{◌∙◌, map, ap}
 use Rattle.std.proofs.lemmas.Result.{IfOk-weaker}
 use Rattle.serde_json.specs.View.{view}
 use Rattle.melon_query.specs.Reading.{query_of}
 use Rattle.melon_machine.specs.State.{KeptObserver, as_kept}
-use Rattle.melon_machine.specs.Apps.{told, taken_fault, with_table, observes, watches_id}
+use Rattle.melon_machine.specs.Apps.{told, taken_fault, with_table, observes}
 use Rattle.melon_world.proofs.Places.{refused_named, opened_named}
 use Rattle.melon_world.proofs.observing.observe_named.Goals as goal
 

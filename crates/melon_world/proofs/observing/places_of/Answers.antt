@@ -1,6 +1,5 @@
 use Rattle.std.proofs.Common.{◌≡◌, ◌∙◌, None, ap, sym, arith}
 use Rattle.melon_schema.specs.Places.{column_named}
-use Rattle.melon_schema.proofs.Each.{each_more}
 use Rattle.melon_world.proofs.Fields.{each_lacks}
 use Rattle.melon_world.proofs.observing.places_of.Goals as goal
 

@@ -1,6 +1,5 @@
-use Rattle.std.proofs.Common.{◌≡◌, ◌∙◌}
+use Rattle.std.proofs.Common.{◌∙◌}
 use Rattle.std.proofs.lemmas.Result.{IfOk-weaker}
-use Rattle.serde_json.specs.View.{view}
 use Rattle.melon_machine.specs.State.{as_kept}
 use Rattle.melon_machine.specs.Apps.{place_of, watch_app}
 use Rattle.melon_world.proofs.Meeting.{app_told}

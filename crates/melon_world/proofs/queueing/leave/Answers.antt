@@ -1,4 +1,4 @@
-use Rattle.std.proofs.Common.{◌≡◌, ◌∙◌}
+use Rattle.std.proofs.Common.{◌∙◌}
 use Rattle.std.proofs.lemmas.Result.{IfOk-weaker}
 use Rattle.melon_machine.specs.State.{as_kept}
 use Rattle.melon_machine.specs.Apps.{place_of, leave_app}

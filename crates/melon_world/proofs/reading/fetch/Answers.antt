@@ -1,9 +1,9 @@
-use Rattle.std.proofs.Common.{◌≡◌, ◌∙◌, refl, sym}
+use Rattle.std.proofs.Common.{◌∙◌, refl, sym}
 use Rattle.std.proofs.lemmas.Result.{IfOk-weaker}
 use Rattle.serde_json.specs.View.{view}
 use Rattle.melon_machine.specs.Calls.{Done}
 use Rattle.melon_machine.specs.State.{as_kept}
-use Rattle.melon_machine.specs.Apps.{told, put_back, place_of, looks, fetched}
+use Rattle.melon_machine.specs.Apps.{place_of, looks, fetched}
 use Rattle.melon_machine.specs.Outcomes.{stepped}
 use Rattle.melon_world.proofs.Meeting.{app_found, put_same}
 use Rattle.melon_world.proofs.reading.fetch.Goals as goal

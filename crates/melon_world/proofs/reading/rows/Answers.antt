@@ -1,8 +1,8 @@
-use Rattle.std.proofs.Common.{◌≡◌, ◌∙◌, refl, sym}
+use Rattle.std.proofs.Common.{◌∙◌, refl, sym}
 use Rattle.std.proofs.lemmas.Result.{IfOk-weaker}
 use Rattle.melon_machine.specs.Calls.{Done}
 use Rattle.melon_machine.specs.State.{as_kept}
-use Rattle.melon_machine.specs.Apps.{told, put_back, place_of, looks, rows_shown}
+use Rattle.melon_machine.specs.Apps.{place_of, looks, rows_shown}
 use Rattle.melon_machine.specs.Outcomes.{stepped}
 use Rattle.melon_world.proofs.Meeting.{app_found, put_same}
 use Rattle.melon_world.proofs.reading.rows.Goals as goal

@@ -1,4 +1,4 @@
-use Rattle.std.proofs.Common.{◌≡◌, ◌∷◌, [], ◌∙◌, set, map, ap, sym, subst, Some}
+use Rattle.std.proofs.Common.{◌∷◌, [], ◌∙◌, set, map, ap, sym, subst, Some}
 use Rattle.std.proofs.lemmas.Result.{IfOk-weaker}
 use Rattle.melon_script.specs.declared.item.Item.{Item}
 use Rattle.melon_machine.specs.State.{KeptObserver, KeptApp, kept_app, as_kept}

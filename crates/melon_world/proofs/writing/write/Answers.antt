@@ -1,4 +1,4 @@
-use Rattle.std.proofs.Common.{◌≡◌, ◌∙◌}
+use Rattle.std.proofs.Common.{◌∙◌}
 use Rattle.serde_json.specs.View.{view}
 use Rattle.melon_machine.specs.State.{as_kept}
 use Rattle.melon_machine.specs.Apps.{write_app, place_of}

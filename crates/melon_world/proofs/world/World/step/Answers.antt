@@ -1,4 +1,4 @@
-use Rattle.std.proofs.Common.{◌≡◌, ◌∷◌, [], ◌∙◌, List, ap, sym, subst, refl}
+use Rattle.std.proofs.Common.{◌∷◌, [], List, sym, subst, refl}
 use Rattle.std.specs.Prelude.{IfOk}
 use Rattle.serde_json.specs.View.{view}
 use Rattle.melon_script.specs.Seen.{seen}
