@@ -18,18 +18,26 @@ outside_from false r e f = refl
 pub told_before : (fits : Bool) (old new : State) (P : Trees → Type 0) → old.in_transaction ≡ false → Survives old new P → (HasCleanDisk new → StaysShut old new) → TellsIn fits new → TellsIn fits old
 told_before fits old new P outside s o T = record { fits_now = T.fits_now; clean = omega (arith, s.clean, T.clean); is_open = o T.clean T.is_open; outside = outside }
 
+-- what is committed is what there is
+here : (s : State) → Idle s → (store : List ℕ) → stores_in s.committed.trees store ≡ stores_in s.now.trees store
+here s I store = ap (λ (d : Database). stores_in d.trees store) I.settled
+
 module _ (f : Kept → Kept) (store : List ℕ) (fits : Bool) (old new : State) (knows : Knows fits old) (outside : old.in_transaction ≡ false) (s : Survives old new (Whole f store Idle old)) where
   pub ok_done : (HasCleanDisk new → StaysShut old new × (Idle old → Idle new × Changes f store (stores_in old.now.trees) (stores_in new.now.trees))) → (m : Stores) → HoldsIn fits new m → (was : Stores) × HoldsIn fits old was × Changes f store was m
   ok_done c m h =
       let T = told_before fits old new _ outside s (λ clean. (c clean).0) h.0 in
       let r = (c h.0.clean).1 (knows T) in
-      (stores_in old.now.trees, (T, λ _. refl), (h.1 store ∙ r.1.0, λ other apart. h.1 other ∙ r.1.1 other apart))
+      (
+        stores_in old.committed.trees,
+        (T, λ _. refl),
+        (h.1 store ∙ here new r.0 store ∙ r.1.0 ∙ ap f (sym (here old (knows T) store)), λ other apart. h.1 other ∙ here new r.0 other ∙ r.1.1 other apart ∙ sym (here old (knows T) other)),
+      )
 
   pub err_done : (HasCleanDisk new → StaysShut old new × (Idle old → IsTrue new.is_open → Idle new × (new.now ≡ old.now))) → (m : Stores) → HoldsIn fits new m → (was : Stores) × HoldsIn fits old was × AreSame m was
   err_done c m h =
       let T = told_before fits old new _ outside s (λ clean. (c clean).0) h.0 in
       let r = (c h.0.clean).1 (knows T) h.0.is_open in
-      (stores_in old.now.trees, (T, λ _. refl), λ one. h.1 one ∙ ap (λ (d : Database). stores_in d.trees one) r.1)
+      (stores_in old.committed.trees, (T, λ _. refl), λ one. h.1 one ∙ here new r.0 one ∙ ap (λ (d : Database). stores_in d.trees one) r.1 ∙ sym (here old (knows T) one))
 
   pub ok_knows : (HasCleanDisk new → StaysShut old new × (Idle old → Idle new × Changes f store (stores_in old.now.trees) (stores_in new.now.trees))) → Knows fits new
   ok_knows c T = ((c T.clean).1 (knows (told_before fits old new _ outside s (λ clean. (c clean).0) T))).0
@@ -41,8 +49,8 @@ module _ (f : Kept → Kept) (store : List ℕ) (fits : Bool) (old new : State) 
   may_leave law was h m left =
       let I = knows h.0 in
       elim (s.crash left.0 left.1 left.2) [
-        | inl before ↦ inl (λ one. left.3 one ∙ ap (λ (t : Trees). stores_in t one) (law left.1 h.0.is_open before ∙ ap (λ (d : Database). d.trees) I.settled) ∙ sym (h.1 one))
-        | inr whole ↦ let w = whole I in inr (left.3 store ∙ w.0 ∙ ap f (sym (h.1 store)), λ other apart. left.3 other ∙ w.1 other apart ∙ sym (h.1 other))
+        | inl before ↦ inl (λ one. left.3 one ∙ ap (λ (t : Trees). stores_in t one) (law left.1 h.0.is_open before) ∙ sym (h.1 one))
+        | inr whole ↦ let w = whole I in inr (left.3 store ∙ w.0 ∙ ap f (sym (here old I store) ∙ sym (h.1 store)), λ other apart. left.3 other ∙ w.1 other apart ∙ sym (here old I other) ∙ sym (h.1 other))
       ]
 
 module _ (fits : Bool) (old new : State) (knows : Knows fits old) (outside : old.in_transaction ≡ false) (s : Survives old new (λ _. Idle old → ⊥)) (opened : HasCleanDisk new → StaysShut old new) (stays : HasCleanDisk new → StaysIdle old new) where
@@ -50,10 +58,10 @@ module _ (fits : Bool) (old new : State) (knows : Knows fits old) (outside : old
   load_kept m h =
       let T = told_before fits old new _ outside s opened h.0 in
       let r = stays h.0.clean (knows T) h.0.is_open in
-      (T, λ one. h.1 one ∙ ap (λ (d : Database). stores_in d.trees one) r.1)
+      (T, λ one. h.1 one ∙ here new r.0 one ∙ ap (λ (d : Database). stores_in d.trees one) r.1 ∙ sym (here old (knows T) one))
 
   pub load_found : (store : List ℕ) (kept : Kept) → (HasCleanDisk new → Idle old → Idle new × (kept ≡ stores_in old.now.trees store)) → (m : Stores) → HoldsIn fits new m → kept ≡ m store
-  load_found store kept loads m h = let was = load_kept m h in (loads h.0.clean (knows was.0)).1 ∙ sym (was.1 store)
+  load_found store kept loads m h = let was = load_kept m h in (loads h.0.clean (knows was.0)).1 ∙ sym (here old (knows was.0) store) ∙ sym (was.1 store)
 
   pub load_knows : Knows fits new
   load_knows T = (stays T.clean (knows (told_before fits old new _ outside s opened T)) T.is_open).0
@@ -62,15 +70,9 @@ module _ (fits : Bool) (old new : State) (knows : Knows fits old) (outside : old
   load_leaves law was h m left =
       let I = knows h.0 in
       elim (s.crash left.0 left.1 left.2) [
-        | inl before ↦ λ one. left.3 one ∙ ap (λ (t : Trees). stores_in t one) (law left.1 h.0.is_open before ∙ ap (λ (d : Database). d.trees) I.settled) ∙ sym (h.1 one)
+        | inl before ↦ λ one. left.3 one ∙ ap (λ (t : Trees). stores_in t one) (law left.1 h.0.is_open before) ∙ sym (h.1 one)
         | inr never ↦ absurd (never I)
       ]
-
--- a call that does nothing
-pub quiet_leaves : (fits : Bool) (s : State) → Knows fits s → ((db : Trees) → IsTrue s.is_open → s.may_leave db → db ≡ s.committed.trees) → (was : Stores) → HoldsIn fits s was → (m : Stores) → LeavesIn s m → AreSame m was
-quiet_leaves fits s knows law was h m left =
-    let I = knows h.0 in
-    λ one. left.3 one ∙ ap (λ (t : Trees). stores_in t one) (law left.1 h.0.is_open left.2 ∙ ap (λ (d : Database). d.trees) I.settled) ∙ sym (h.1 one)
 
 -- it goes on telling
 pub goes_on : (fits : Bool) (old new : State) (P : Trees → Type 0) → Knows fits old → Survives old new P → (HasCleanDisk new → Idle old → IsTrue new.is_open → new.in_transaction ≡ false) → GoesOnIn fits old new
@@ -83,3 +85,12 @@ pub load_tells : (fits : Bool) (old new : State) (store : List ℕ) (kept : Kept
 load_tells fits old new store kept knows loads T clean =
     let idle = (loads clean (knows T)).0 in
     record { fits_now = T.fits_now; clean = clean; is_open = idle.is_open; outside = idle.outside }
+
+-- a load that answers leaves it telling what it told, where the disk is clean
+pub load_goes_on : (fits : Bool) (old new : State) (store : List ℕ) (kept : Kept) → Knows fits old → (HasCleanDisk new → Idle old → Idle new × (kept ≡ stores_in old.now.trees store)) → (HasCleanDisk new → StaysIdle old new)
+    → HasCleanDisk new → (was : Stores) → HoldsIn fits old was → HoldsIn fits new was
+load_goes_on fits old new store kept knows loads stays clean was h =
+    let I = knows h.0 in
+    let T = load_tells fits old new store kept knows loads h.0 clean in
+    let r = stays clean I T.is_open in
+    (T, λ one. h.1 one ∙ here old I one ∙ sym (ap (λ (d : Database). stores_in d.trees one) r.1) ∙ sym (here new r.0 one))

@@ -1,5 +1,5 @@
 -- A connection that was opened again.
-use Rattle.std.proofs.Common.{◌≡◌, ◌⊎◌, inl, inr, ◌≤◌, Bool, true, false, Result, Ok, Err, IfOk, OnOk, sym, ◌∙◌, subst, IsTrue, true≢false, refl, arith, ◌↔◌}
+use Rattle.std.proofs.Common.{◌≡◌, ◌⊎◌, inl, inr, ap, ◌≤◌, Bool, true, false, Result, Ok, Err, IfOk, OnOk, sym, ◌∙◌, subst, IsTrue, true≢false, refl, arith, ◌↔◌}
 use Rattle.sqlite_trees.specs.declared.store.Store.{Ghosts}
 use Rattle.sqlite_trees.specs.declared.store.Shape.TheVariants as shape
 use Rattle.sqlite_trees.specs.Objects.{IsListed, catalog_tree}
@@ -14,9 +14,10 @@ use Rattle.sqlite.specs.Effect.{Database}
 use Rattle.sqlite.specs.Held.{Held, state}
 use Rattle.sqlite.specs.State.{State, HasCleanDisk}
 use Rattle.melon_outside.specs.Keeping.{Stores}
+use Rattle.melon_sqlite.specs.Contents.{stores_in}
 use Rattle.melon_sqlite.specs.Opening.{Keeps, KeepsRows, KeepsBoth, IsSettled, IsRenewed}
 use Rattle.melon_sqlite.specs.Tables.{kept_schema, rows_table, values_table}
-use Rattle.melon_sqlite.specs.Telling.{TellsIn, HoldsIn}
+use Rattle.melon_sqlite.specs.Telling.{TellsIn, HoldsIn, Knows}
 use Rattle.melon_sqlite.specs.Transactions.{Idle}
 
 -- what is not broken is open
@@ -52,12 +53,13 @@ renewed_idle old new R schema = record {
 
 pub opened_holds : {S E : Type 0} (g : Ghosts S) (r : Result (Held S × Bool) E) (old mid : State)
     → IfOk r (λ x. HasCleanDisk (state g x.0) → (TellsIn x.1 (state g x.0)) ↔ ((state g x.0).now.schema ≡ kept_schema))
-    → IfOk r (λ x. HasCleanDisk (state g x.0) → IsTrue mid.is_open × ((state g x.0).now ≡ mid.committed)) → IfOk r (λ x. doubt mid.is_clean ≤ doubt (state g x.0).is_clean)
+    → IfOk r (λ x. Knows x.1 (state g x.0)) → IfOk r (λ x. HasCleanDisk (state g x.0) → IsTrue mid.is_open × ((state g x.0).now ≡ mid.committed)) → IfOk r (λ x. doubt mid.is_clean ≤ doubt (state g x.0).is_clean)
     → (HasCleanDisk mid → IsTrue mid.is_open → (m : Stores) → Keeps old.committed m → KeepsBoth mid.committed m)
     → IfOk r (λ x. HasCleanDisk (state g x.0) → (m : Stores) → Keeps old.committed m → HoldsIn x.1 (state g x.0) m)
-opened_holds {S} {E} g (Ok x) old mid tells found falls kept = λ clean m K.
+opened_holds {S} {E} g (Ok x) old mid tells knows found falls kept = λ clean m K.
     let f = found clean in
     let both = kept (omega (arith, falls, clean)) f.0 m K in
     let here : KeepsBoth (state g x.0).now m = subst (λ (d : Database). KeepsBoth d m) (sym f.1) both in
-    ((tells clean).1 here.0, here.1)
-opened_holds {S} {E} g (Err e) old mid tells found falls kept = tt
+    let T = (tells clean).1 here.0 in
+    (T, λ one. here.1 one ∙ sym (ap (λ (d : Database). stores_in d.trees one) (knows T).settled))
+opened_holds {S} {E} g (Err e) old mid tells knows found falls kept = tt

@@ -1,5 +1,6 @@
 -- What a keeper over SQLite tells, and what a stop may leave.
 use Rattle.std.specs.Prelude.{◌≡◌, ◌⊎◌, ℕ, ◌^◌, Bool, not, false, List, Result, Ok, Err, IsTrue, nat_lt, refl}
+use Rattle.std.proofs.Common.{ap, sym, ◌∙◌}
 use Rattle.std.specs.List.{list_any}
 use Rattle.std.specs.Coded.{Coded, code_by, coded×, coded_ℕ, coded_bool}
 use Rattle.sqlite_trees.specs.Tree.{Trees}
@@ -33,13 +34,17 @@ pub record TellsIn (fits : Bool) (s : State) : Type 0 where
   pub is_open : IsTrue s.is_open
   pub outside : s.in_transaction ≡ false
 
--- then that is what the two tables keep
+-- then that is what the two tables keep, as it was last committed
 abbrev pub HoldsIn : Bool → State → Stores → Type 0
-HoldsIn fits s m = TellsIn fits s × AreSame m (stores_in s.now.trees)
+HoldsIn fits s m = TellsIn fits s × AreSame m (stores_in s.committed.trees)
 
 -- what an open of the database after a stop at this moment may find in the two tables
 abbrev pub LeavesIn : State → Stores → Type 0
 LeavesIn s m = HasCleanDisk s × (db : Trees) × s.may_leave db × AreSame m (stores_in db)
+
+-- what a stop leaves is what is held, where the disk leaves what is committed
+pub settles : (fits : Bool) (s : State) → ((db : Trees) → IsTrue s.is_open → s.may_leave db → db ≡ s.committed.trees) → (m left : Stores) → HoldsIn fits s m → LeavesIn s left → AreSame left m
+settles fits s law m left h l = λ store. l.3 store ∙ ap (λ (t : Trees). stores_in t store) (law l.1 h.0.is_open l.2) ∙ sym (h.1 store)
 
 -- where it tells, the two tables are there and all is committed
 abbrev pub Knows : Bool → State → Type 0

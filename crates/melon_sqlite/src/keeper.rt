@@ -10,7 +10,7 @@ ghost use Rattle.melon_outside.specs.Keeping.{AreSame, Changes, Committed, Store
 ghost use Rattle.melon_sqlite.specs.Contents.{has_negative};
 ghost use Rattle.melon_sqlite.specs.Opening.{Keeps};
 ghost use Rattle.melon_sqlite.specs.Tables.{kept_schema};
-ghost use Rattle.melon_sqlite.specs.Telling.{GoesOn, Holds, MayLeave, Tells, has_big, shown};
+ghost use Rattle.melon_sqlite.specs.Telling.{GoesOn, Holds, MayLeave, Tells, has_big, settles, shown};
 ghost use Rattle.melon_sqlite.specs.Transactions.{AreNumbers};
 
 use crate::opening::opened;
@@ -84,15 +84,21 @@ impl<S: Alter + Drop> Keeper for SqliteKeeper<S> {
 
     ghost may_leave = { MayLeave S.Store };
 
+    ghost honest = { λ k. HasCleanDisk (shown S.Store k) };
+
     ghost faults = { λ k. k.faults };
 
     ghost sound = { λ _. ⊥ };
 
     ghost one = { λ k a b p q store. p.1 store ∙ sym (q.1 store) };
 
+    ghost between = { λ k. settles k.fits _ (λ db. S.Store.settled k.connection.store db) };
+
+    ghost honestly = { λ k left l. l.0 };
+
     fn load(&mut self, alloc: Global, store: &str) -> Result<Kept, KeeperError>
         ensures tells { OnOk result (Tells S.Store self.old → HasCleanDisk (shown S.Store self.new) → Tells S.Store self.new) }
-        ensures goes_on { GoesOn S.Store self.old self.new }
+        ensures stays_open { GoesOn S.Store self.old self.new }
         ensures fits { self.new.fits ≡ self.old.fits }
         ensures natural { OnOk result (Tells S.Store self.new → has_negative (shown S.Store self.new).now.trees store.now ≡ false) }
         ensures uncounted { OnOk result (self.new.faults ≡ self.old.faults) }
@@ -102,7 +108,7 @@ impl<S: Alter + Drop> Keeper for SqliteKeeper<S> {
         ensures found { (m : Stores) → Holds S.Store self.new m → IfOk result (λ kept. kept ≡ m store.now) }
         ensures ordered { IfOk result (λ kept. is_in_order kept ≡ true) }
         ensures leaves { (was : Stores) → Holds S.Store self.old was → (m : Stores) → MayLeave S.Store self.new m → AreSame m was }
-        ensures between { (m : Stores) → Holds S.Store self.new m → (left : Stores) → MayLeave S.Store self.new left → AreSame left m }
+        ensures goes_on { OnOk result (HasCleanDisk (shown S.Store self.new) → (was : Stores) → Holds S.Store self.old was → Holds S.Store self.new was) }
         ensures later { self.old.faults ≤ self.new.faults }
         ensures cause { IsErrOf result KeeperError.Failed → Rose self.old.faults self.new.faults }
         ensures sound_stays { ⊥ → ⊥ }
@@ -125,7 +131,7 @@ impl<S: Alter + Drop> Keeper for SqliteKeeper<S> {
 
     fn commit(&mut self, _alloc: Global, store: &str, batch: &KeptBatch) -> Result<(), KeeperError>
         ensures tells { OnOk result (Tells S.Store self.old → HasCleanDisk (shown S.Store self.new) → Tells S.Store self.new) }
-        ensures goes_on { GoesOn S.Store self.old self.new }
+        ensures stays_open { GoesOn S.Store self.old self.new }
         ensures fits { self.new.fits ≡ self.old.fits }
         ensures big { has_big batch.now.values ≡ true → (result ≡ Err KeeperError.Failed) × (self.new.connection ≡ self.old.connection) }
         ensures uncounted { OnOk result (self.new.faults ≡ self.old.faults) }
@@ -133,7 +139,7 @@ impl<S: Alter + Drop> Keeper for SqliteKeeper<S> {
         ensures memory { IsErrOf result KeeperError.Memory → self.new.faults ≡ self.old.faults }
         ensures done { (m : Stores) → Holds S.Store self.new m → (was : Stores) × Holds S.Store self.old was × Committed (batched batch.now) store.now result was m }
         ensures leaves { (was : Stores) → Holds S.Store self.old was → (m : Stores) → MayLeave S.Store self.new m → AreSame m was ⊎ Changes (batched batch.now) store.now was m }
-        ensures between { (m : Stores) → Holds S.Store self.new m → (left : Stores) → MayLeave S.Store self.new left → AreSame left m }
+        ensures was_honest { HasCleanDisk (shown S.Store self.new) → HasCleanDisk (shown S.Store self.old) }
         ensures later { self.old.faults ≤ self.new.faults }
         ensures cause { IsErrOf result KeeperError.Failed → Rose self.old.faults self.new.faults }
         ensures sound_stays { ⊥ → ⊥ }
@@ -164,7 +170,6 @@ impl<S: Alter + Drop> SqliteKeeper<S> {
         ensures tells { IfOk result (λ k. HasCleanDisk (shown S.Store k) → (Tells S.Store k) ↔ ((shown S.Store k).now.schema ≡ kept_schema)) }
         ensures fits { IfOk result (λ k. HasCleanDisk (shown S.Store k) → IsTrue k.fits → Tells S.Store k) }
         ensures holds { IfOk result (λ k. HasCleanDisk (shown S.Store k) → (m : Stores) → Keeps (state S.Store connection).committed m → Holds S.Store k m) }
-        ensures between { IfOk result (λ k. (m : Stores) → Holds S.Store k m → (left : Stores) → MayLeave S.Store k left → AreSame left m) }
         ensures faults { IfOk result (λ k. k.faults ≡ 0) }
     {
         match opened(alloc, connection) {
