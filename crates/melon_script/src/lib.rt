@@ -6,8 +6,6 @@ pub mod item;
 pub mod line;
 pub mod lines;
 pub mod printing;
-#[cfg(test)]
-mod tests;
 
 pub use answer::Answer;
 pub use item::{Detail, Given, GivenRow, Group, Item};
