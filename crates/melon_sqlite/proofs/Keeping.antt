@@ -26,8 +26,7 @@ module _ (f : Kept → Kept) (store : List ℕ) (fits : Bool) (old new : State) 
   pub ok_done : (HasCleanDisk new → StaysShut old new × (Idle old → Idle new × Changes f store (stores_in old.now.trees) (stores_in new.now.trees))) → (m : Stores) → HoldsIn fits new m → (was : Stores) × HoldsIn fits old was × Changes f store was m
   ok_done c m h =
       let T = told_before fits old new _ outside s (λ clean. (c clean).0) h.0 in
-      let r = (c h.0.clean).1 (knows T) in
-      (
+      let r = (c h.0.clean).1 (knows T) in (
         stores_in old.committed.trees,
         (T, λ _. refl),
         (h.1 store ∙ here new r.0 store ∙ r.1.0 ∙ ap f (sym (here old (knows T) store)), λ other apart. h.1 other ∙ here new r.0 other ∙ r.1.1 other apart ∙ sym (here old (knows T) other)),
