@@ -5,6 +5,7 @@ use melon_cli::{Status, melon_run};
 use melon_outside::{Keeper, KeeperError, MemoryKeeper, StdSink, StdSource};
 use melon_schema::List;
 use melon_sqlite::open_file;
+use std::io::ErrorKind;
 use std::process::ExitCode;
 use std::rt::Env;
 use std::{env, io};
@@ -56,9 +57,18 @@ fn run_on_file(rt: &HostRuntime, path: &str) -> End {
     End::Ran(status)
 }
 
+/// How a run ends whose words could not be read: a word that isn't UTF-8 is none of this program's.
+fn unread(fault: &io::Error) -> Status {
+    match fault.kind() {
+        ErrorKind::OutOfMemory => Status::Memory,
+        _ => Status::BadWords,
+    }
+}
+
 fn run_on(rt: &HostRuntime) -> End {
-    let Ok(words) = words_of(rt) else {
-        return End::Ran(Status::BadWords);
+    let words = match words_of(rt) {
+        Ok(words) => words,
+        Err(fault) => return End::Ran(unread(&fault)),
     };
     match words.as_slice() {
         [word, path] if word.as_str() == "keep" => run_on_file(rt, path.as_str()),

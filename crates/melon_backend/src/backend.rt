@@ -216,6 +216,7 @@ impl Backend {
         Backend::open_kept(alloc, keeper, name, schema)
     }
 
+    /// The schema under which it was opened.
     pub fn schema(&self) -> &AppSchema
         ensures { result.now ≡ self.now.schema }
     {

@@ -192,6 +192,7 @@ impl Store {
         Ok(store)
     }
 
+    /// The name of the app whose store it is.
     pub fn name(&self) -> &str
         ensures { result.now ≡ self.now.name }
     {
@@ -208,6 +209,7 @@ impl Store {
         &self.board
     }
 
+    /// The schema under which it was opened.
     pub fn schema(&self) -> &AppSchema
         ensures { result.now ≡ self.now.schema }
     {

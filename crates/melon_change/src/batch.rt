@@ -315,7 +315,9 @@ fn prepare_each(
     Ok(changes)
 }
 
-/// The change set of a batch, in the order of its operations.
+/// The change set of a batch, in the order of its operations, each judged on the rows before the batch. A batch of more
+/// than 100000 operations is refused, and so is one with an operation that breaks a rule: the first such one is told, with
+/// the first rule of `BatchFault` that it breaks.
 #[tactic(auto, unfolding(crate::specs::Batch::batch_of))]
 pub fn prepare(
     alloc: Global,

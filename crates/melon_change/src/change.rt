@@ -16,12 +16,16 @@ pub struct Change {
     pub after: Option<Raw>,
 }
 
-/// What an observer is told of a change: whether the record became visible, stayed so, stopped being so, or is hidden.
+/// What an observer is told of a change.
 #[derive(Clone, Copy, Debug, PartialEq, Eq)]
 pub enum Told {
+    /// The record became visible.
     Created,
+    /// It was visible and is.
     Updated,
+    /// It stopped being visible.
     Destroyed,
+    /// It is visible neither before nor after.
     Hidden,
 }
 
@@ -90,12 +94,14 @@ impl Model for ChangeSet {
 impl ChangeSet {
     ghost use Rattle.std.specs.Prelude.{[], ◌↔◌, IsTrue, length};
 
+    /// The set of these changes.
     pub fn from_list(changes: List<Change>) -> ChangeSet
         ensures { result ≡ changes }
     {
         ChangeSet { changes }
     }
 
+    /// The changes, taken out of the set.
     pub fn into_list(self) -> List<Change>
         ensures { result ≡ self }
     {
@@ -103,18 +109,21 @@ impl ChangeSet {
         changes
     }
 
+    /// The changes in their order.
     pub fn as_slice(&self) -> &[Change]
         ensures { result.now ≡ self.now }
     {
         self.changes.as_slice()
     }
 
+    /// How many changes there are.
     pub fn len(&self) -> usize
         ensures { result ≡ length self.now }
     {
         self.changes.len()
     }
 
+    /// Whether there is none.
     pub fn is_empty(&self) -> bool
         ensures { IsTrue result ↔ (self.now ≡ []) }
     {

@@ -2,11 +2,14 @@ use crate::ChangeSet;
 use melon_schema::Twin;
 use std::alloc::{AllocError, Global};
 
-/// What made an entry: a batch of the app, a pull's changes, or a push's settlement.
+/// What made an entry.
 #[derive(Clone, Copy, Debug, PartialEq, Eq)]
 pub enum Origin {
+    /// A batch of the app.
     Local,
+    /// The changes of a pull.
     Applied,
+    /// The settlement of a push.
     Settled,
 }
 

@@ -1,7 +1,7 @@
 use melon_schema::Text;
 use std::alloc::AllocError;
 
-/// A rule that one operation breaks.
+/// A rule that one operation breaks. `BatchFault` has the same rules with the operation that breaks them.
 #[derive(Debug, Drop)]
 pub enum Rule {
     UnknownTable,

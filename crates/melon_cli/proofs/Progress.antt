@@ -201,6 +201,7 @@ module _ (script : List ℕ) (held : Stores → Type 0) (count : ℕ) (before : 
           g.1,
           record {
             outcomes = at.outcomes;
+            each = λ later. ap (λ (e : Ran). e.left) (at.comes.goes later);
             written = subst (λ (t : List ℕ). Grows before after t) (sym (ap (λ (e : Ran). e.text) end)) (pends_written before written after pending at.printed at.shows grows);
             kept = λ name. sym (ap (λ (e : Ran). e.kept name) end);
             rose = at.rose;

@@ -25,10 +25,15 @@ longest_script = 16777216
 
 -- ---- a whole run
 
+-- There is one outcome for each call of the keeper that the run makes, and none more: outcomes behind them are left.
+abbrev pub IsOfCalls : List ℕ → Stores → List Bool → Type 0
+IsOfCalls script was outcomes = (later : List Bool) → (run script was (outcomes ++ later)).left ≡ later
+
 -- The script was run to its end, or up to the first line outside the grammar: its text was written, and that is kept what the
 -- machine keeps. Each outcome is one of a call of the keeper, whose count rose with each that failed.
 pub record Ran (script : List ℕ) (was m : Stores) (before after : Option (List ℕ)) (faults_before faults_now : ℕ) : Type 0 where
   pub outcomes : List Bool
+  pub each : IsOfCalls script was outcomes
   pub written : Grows before after (run script was outcomes).text
   pub kept : AreSame m (run script was outcomes).kept
   pub rose : RoseBy (failures outcomes) faults_before faults_now

@@ -144,7 +144,9 @@ fn ids_of(alloc: Global, rows: &[&Raw]) -> Result<List<Id>, AllocError>
     Ok(ids)
 }
 
-/// The ids that a query answers, in their order.
+/// The ids that a query answers: those of the visible rows of which one tuple makes all conditions true, each once, by
+/// the sort columns and then by id, without the first `skip` and at most `take` of the rest. `steps` counts the rows
+/// that are read of the tables.
 pub fn run<L: Ledger>(
     alloc: Global,
     query: &Query,

@@ -41,6 +41,7 @@ impl<W: Write> Model for StdSink<W> {
 }
 
 impl<W: Write> StdSink<W> {
+    /// A sink over a writer, with no fault counted.
     pub fn new(inner: W) -> StdSink<W>
         ensures { result ≡ (inner, 0) }
     {

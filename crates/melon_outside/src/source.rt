@@ -41,6 +41,7 @@ impl<R: Read> Model for StdSource<R> {
 }
 
 impl<R: Read> StdSource<R> {
+    /// A source over a reader, with no fault counted.
     pub fn new(inner: R) -> StdSource<R>
         ensures { result ≡ (inner, 0) }
     {

@@ -35,6 +35,7 @@ pub enum Right {
     Other(Col),
 }
 
+/// A comparison of a column with its right side.
 #[derive(Debug, Drop)]
 pub struct Compare {
     pub column: Col,

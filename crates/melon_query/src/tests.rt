@@ -43,6 +43,25 @@ mod tests {
     }
 
     #[test]
+    fn names_the_tables_that_it_reads(rt: HostRuntime) -> Result<(), Fail> {
+        let schema = schema(rt.alloc())?;
+        let below_or =
+            r#"{"joins":["comments"],"where":[{"or":[{"on":"comments","is":[{"column":"likes","op":"eq","value":1}]},{"column":"title","op":"eq","value":"t2"}]}]}"#;
+        let cases: [(&str, &[usize]); 3] = [
+            (below_or, &[0, 1]),
+            (r#"{"joins":["comments"]}"#, &[0]),
+            ("{}", &[0]),
+        ];
+        for (text, places) in cases {
+            let json = json_of(rt.alloc(), text.as_bytes())?;
+            let query = Query::read(rt.alloc(), &json, &schema, "posts")?;
+            let tables = query.tables(rt.alloc())?;
+            assert_eq!(rt; tables.as_slice(), places);
+        }
+        Ok(())
+    }
+
+    #[test]
     fn tells_the_first_fault(rt: HostRuntime) -> Result<(), Fail> {
         let schema = schema(rt.alloc())?;
         for (text, number) in [

@@ -14,7 +14,7 @@ pub enum QueueFault {
     Queued,
     /// Another holds the queue, or none does.
     NotHolder { holder: Option<Id> },
-    /// There are so many names, or the holder has entered so many times.
+    /// There are 64 names already, or the holder has entered 64 times; `count` is 64.
     Full { count: u64 },
     Memory,
 }
@@ -43,6 +43,7 @@ pub enum Left {
     NotHolder,
 }
 
+/// The most names, and the greatest depth.
 const MOST: usize = 64;
 
 /// Writers under their names, in the order in which they entered. The first holds the queue.
@@ -105,6 +106,7 @@ impl Queue {
     ghost use Rattle.melon_queue.specs.Seen.{IsQueue};
     ghost use Rattle.melon_queue.specs.Queues.{first, rest, holder_of, entered, nested, quit, Steps};
 
+    /// A queue that nobody holds, which takes no memory.
     pub fn new(alloc: Global) -> Queue
         ensures { result ≡ record { names = []; depth = 0 } }
     {
@@ -114,7 +116,8 @@ impl Queue {
         }
     }
 
-    /// Puts the writer at the end, and answers how many stand before it.
+    /// Puts the writer at the end, and answers how many stand before it. A writer that stands in the queue is `Queued`; a
+    /// 65th name finds it `Full`. After a fault the queue is as it was.
     pub fn enter(&mut self, alloc: Global, writer: Id) -> Result<usize, QueueFault>
         ensures { Steps result self.old self.new (entered writer self.old) }
     {
@@ -136,7 +139,8 @@ impl Queue {
         Ok(before)
     }
 
-    /// Lets the holder enter once more, and answers its new depth.
+    /// Lets the holder enter once more, and answers its new depth, which is 64 at most. Any other writer is `NotHolder`.
+    /// After a fault the queue is as it was.
     pub fn nest(&mut self, alloc: Global, writer: &Id) -> Result<usize, QueueFault>
         ensures { Steps result self.old self.new (nested writer.now self.old) }
     {

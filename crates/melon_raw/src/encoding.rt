@@ -25,6 +25,7 @@ impl Status {
 }
 
 impl Datum {
+    /// The value as JSON: null, a text, a number or a truth value.
     pub fn to_json(&self, alloc: Global) -> Result<Value, AllocError>
         ensures { IfOk result (λ v. view v ≡ datum_data self.now) }
     {

@@ -60,6 +60,7 @@ impl Id {
         })
     }
 
+    /// The id as text.
     pub fn as_str(&self) -> &str
         ensures { result.now ≡ self.now }
     {

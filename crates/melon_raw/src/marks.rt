@@ -21,6 +21,7 @@ impl Model for Marks {
 }
 
 impl Marks {
+    /// No marks, which takes no memory.
     pub fn new(alloc: Global) -> Marks
         ensures { result ≡ [] }
     {

@@ -4,6 +4,8 @@
 #[cfg(test)]
 mod conditions;
 #[cfg(test)]
+mod observers;
+#[cfg(test)]
 mod queries;
 #[cfg(test)]
 mod runs;

@@ -48,6 +48,7 @@ impl AppSchema {
         Ok(())
     }
 
+    /// The version, from 1 to 9007199254740991.
     pub fn version(&self) -> u64
         ensures { result ≡ self.now.version }
     {

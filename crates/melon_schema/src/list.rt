@@ -36,6 +36,7 @@ impl<T> List<T> {
         &mut self.items[at]
     }
 
+    /// A list without elements, which takes no memory.
     pub fn new(alloc: Global) -> List<T>
         ensures { result ≡ [] }
     {
@@ -44,12 +45,14 @@ impl<T> List<T> {
         }
     }
 
+    /// The list of a vector's elements.
     pub fn from_vec(items: Vec<T>) -> List<T>
         ensures { result ≡ items.items }
     {
         List { items }
     }
 
+    /// The vector of the elements.
     pub fn into_vec(self) -> Vec<T>
         ensures { result.items ≡ self }
     {
@@ -57,24 +60,28 @@ impl<T> List<T> {
         items
     }
 
+    /// The elements in their order.
     pub fn as_slice(&self) -> &[T]
         ensures { result.now ≡ self.now }
     {
         self.items.as_slice()
     }
 
+    /// How many elements there are.
     pub fn len(&self) -> usize
         ensures { result ≡ length self.now }
     {
         self.items.len()
     }
 
+    /// Whether there is none.
     pub fn is_empty(&self) -> bool
         ensures { IsTrue result ↔ (self.now ≡ []) }
     {
         self.items.is_empty()
     }
 
+    /// The element at a place, and none past the end.
     pub fn get(&self, at: usize) -> Option<&T>
         ensures value { option_copied result ≡ slice_get self.now at }
         ensures within { OnSome result (at < length self.now) }
@@ -84,6 +91,7 @@ impl<T> List<T> {
 }
 
 impl<T: Drop> List<T> {
+    /// Puts an element behind the last. After an error the list is as it was.
     pub fn push(&mut self, item: T) -> Result<(), AllocError>
         ensures ok { OnOk result (self.new ≡ self.old ++ item ∷ []) }
         ensures err { OnErr result (self.new ≡ self.old) }
@@ -101,6 +109,7 @@ impl<T: Drop> List<T> {
         mem::replace(&mut self.items[at], item)
     }
 
+    /// Puts an element before the one at a place. After an error the list is as it was.
     pub fn insert(&mut self, at: usize, item: T) -> Result<(), AllocError>
         requires { at ≤ length self.old }
         ensures ok { OnOk result (self.new ≡ insert self.old at item) }

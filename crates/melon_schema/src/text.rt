@@ -37,12 +37,14 @@ impl Text {
         }
     }
 
+    /// The text of a string, which it takes over.
     pub fn from_string(inner: String) -> Text
         ensures { result ≡ string_bytes inner }
     {
         Text { inner }
     }
 
+    /// The text as a string slice.
     pub fn as_str(&self) -> &str
         ensures { result.now ≡ self.now }
     {

@@ -4,9 +4,11 @@ use std::alloc::{AllocError, Global};
 
 /// What can be copied whole and compared, as contracts see it.
 pub trait Twin: Sized {
+    /// A copy that equals it.
     fn copy(&self, alloc: Global) -> Result<Self, AllocError>
         ensures { IfOk result (λ twin. twin ≡ self.now) };
 
+    /// Whether both are equal.
     fn same(&self, other: &Self) -> bool
         ensures { IsTrue result ↔ (self.now ≡ other.now) };
 }

@@ -55,6 +55,7 @@ impl Answer {
         Answer { items }
     }
 
+    /// Puts an item behind the last. After an error the answer is as it was.
     pub fn push(&mut self, item: Item) -> Result<(), AllocError>
         ensures ok { OnOk result (self.new ≡ self.old ++ item ∷ []) }
         ensures err { OnErr result (self.new ≡ self.old) }
@@ -63,6 +64,7 @@ impl Answer {
         Ok(())
     }
 
+    /// The items in their order.
     pub fn as_slice(&self) -> &[Item]
         ensures { result.now ≡ self.now }
     {

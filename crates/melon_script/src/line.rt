@@ -409,7 +409,8 @@ fn line_of(alloc: Global, bytes: &[u8]) -> Result<Line, Refusal>
 }
 
 impl Line {
-    /// The line that the bytes are, without their line end; None for a line of spaces and tabs alone.
+    /// The line that the bytes are, without their line end; None for a line of spaces and tabs alone. Every line else that
+    /// isn't one JSON object with the keys of its form and no others is `Form`.
     pub fn read(alloc: Global, bytes: &[u8]) -> Result<Option<Line>, LineFault>
         ensures { ReadsLine bytes.now result }
     {

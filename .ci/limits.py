@@ -1,0 +1,95 @@
+#!/usr/bin/env python3
+"""A script that goes to each limit and one past it. Prints its lines, or with the word `text` what they print.
+
+    python3 .ci/limits.py [text]
+"""
+import json
+import sys
+
+POSTS = {"name": "posts", "columns": [{"name": "title", "type": "string"}, {"name": "score", "type": "number"}]}
+TABLES = ["t%d" % number for number in range(1, 10)]
+
+
+def schema():
+    """The posts have many records in each of nine tables."""
+    posts = dict(POSTS, associations={name: {"type": "has_many", "foreignKey": "of"} for name in TABLES})
+    return {"version": 1, "tables": [posts] + [
+        {"name": name, "columns": [{"name": "of", "type": "string"}]} for name in TABLES
+    ]}
+
+
+def line(form, **keys):
+    return dict({"do": form}, **keys)
+
+
+def opened():
+    for name in "ABCD":
+        yield line("open", app=name, schema=schema()), "open %s rows 0 last 0" % name
+    yield line("open", app="E", schema=schema()), 'refused app 3 "E"'
+
+
+def written():
+    def creates(first, count):
+        return [{"create": "posts", "id": "p%d" % number, "set": {}} for number in range(first, first + count)]
+
+    def long_title(name, size):
+        return [{"create": "posts", "id": name, "set": {"title": "x" * size}}]
+
+    yield line("write", app="A", ops=creates(0, 100001)), "refused batch 8 100001"
+    yield line("write", app="A", ops=creates(0, 100000)), "write A at 1"
+    yield line("write", app="A", ops=long_title("long", 65537)), 'refused batch 7 1 "posts" "long" "title"'
+    yield line("write", app="A", ops=long_title("long", 65536)), "write A at 2"
+    yield line("write", app="A", ops=[]), "write A at 2"
+    for number, printed in [(2 ** 53 - 1, "write B at 1"), (2 ** 53, "refused ops 2 1")]:
+        yield line("write", app="B", ops=[{"create": "posts", "id": "p%d" % number, "set": {"score": number}}]), printed
+    for size, printed in [(64, "write B at 2"), (65, 'refused batch 3 1 "posts" "%s"' % ("i" * 65))]:
+        yield line("write", app="B", ops=[{"create": "posts", "id": "i" * size, "set": {}}]), printed
+
+
+def queued():
+    yield line("enter", app="C", writer="w0"), "enter C w0 holds"
+    for number in range(1, 64):
+        yield line("enter", app="C", writer="w%d" % number), "enter C w%d waits %d" % (number, number)
+    yield line("enter", app="C", writer="w64"), "refused queue 3 64"
+    for depth in range(2, 65):
+        yield line("nest", app="C", writer="w0"), "nest C w0 depth %d" % depth
+    yield line("nest", app="C", writer="w0"), "refused queue 3 64"
+
+
+def observed():
+    def observe(number):
+        return line("observe", app="D", name="o%d" % number, table="posts", query={}, shape="ids")
+
+    for number in range(64):
+        yield observe(number), "emit D o%d at 0 []" % number
+    yield observe(64), 'refused observer 3 "o64"'
+
+
+def asked():
+    title = {"column": "title", "op": "eq", "value": "a"}
+
+    def deep(depth):
+        return {"and": [deep(depth - 1)]} if depth > 0 else title
+
+    def within(tables):
+        return {"joins": TABLES[:tables], "where": [{"on": name, "is": []} for name in TABLES[:tables]]}
+
+    def one_of(count):
+        return {"where": [{"column": "score", "op": "oneOf", "value": list(range(1, count + 1))}]}
+
+    for query, printed in [
+        ({"where": [deep(16)]}, "fetch D []"),
+        ({"where": [deep(17)]}, "refused query 9"),
+        ({"where": [title] * 256}, "fetch D []"),
+        ({"where": [title] * 257}, "refused query 9"),
+        (one_of(1000), "fetch D []"),
+        (one_of(1001), "refused query 9"),
+        (within(8), "fetch D []"),
+        (within(9), "refused query 9"),
+    ]:
+        yield line("fetch", app="D", table="posts", query=query), printed
+
+
+for part in (opened, written, queued, observed, asked):
+    for given, printed in part():
+        print(printed if sys.argv[1:] == ["text"] else json.dumps(given, separators=(",", ":")))
