@@ -1,5 +1,5 @@
 -- What a turn of the search keeps.
-use Rattle.std.proofs.Common.{◌≡◌, ℕ, zero, suc, ◌+◌, ◌-◌, ◌/◌, ◌<◌, ◌≤◌, ◌^◌, List, [], ◌∷◌, length, Bool, true, Some, slice_get, get_or, arith, inl, inr, subst, sym, ap, ◌∙◌}
+use Rattle.std.proofs.Common.{◌≡◌, ℕ, zero, suc, ◌+◌, ◌-◌, ◌/◌, ◌<◌, ◌≤◌, ◌^◌, List, [], ◌∷◌, length, Bool, true, Some, slice_get, arith, inl, inr, subst, sym, ap, ◌∙◌}
 use native.Mathlib.Numerals.{unary_clauses}
 use Rattle.std.proofs.lemmas.Cmp.{nat_list_cmp_total}
 use Rattle.std.proofs.lemmas.Bool.{cases_lt}
@@ -95,8 +95,8 @@ module _ (id : List ℕ) (rows : List Raw) (low high start now m : ℕ) (r : Raw
     cost = fewer (length rows) start (high - low) (m - low) now (omega arith) (omega (arith, at)) kept.cost;
   }
 
-pub compared : (rows : List Raw) (m : ℕ) (r : Raw) (id : List ℕ) (answer o : Ordering) → r ≡ get_or rows m r → answer ≡ id_cmp (get_or rows m r).id id → answer ≡ o → id_cmp r.id id ≡ o
-compared rows m r id answer o is found was = ap (λ (t : Raw). id_cmp t.id id) is ∙ sym found ∙ was
+pub compared : (r : Raw) (id : List ℕ) (answer o : Ordering) → answer ≡ id_cmp r.id id → answer ≡ o → id_cmp r.id id ≡ o
+compared r id answer o found was = sym found ∙ was
 
 pub equal_ids : (a b : List ℕ) → id_cmp a b ≡ Equal → a ≡ b
 equal_ids a b e = (bytes_eq-Decides a b).0 (sym (is_eq-slice_cmp a b) ∙ ap is_eq e)

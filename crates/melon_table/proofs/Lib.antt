@@ -4,3 +4,5 @@ pub mod Places
 pub mod ById
 pub mod Placed
 pub mod Empty
+pub mod Stock
+pub mod Unsynced

@@ -1,16 +1,12 @@
 -- What is read, put and removed at the place of an id.
-use Rattle.std.proofs.Common.{◌≡◌, ℕ, suc, List, ◌∷◌, ◌++◌, take, drop, get_or, set, length, Option, Some, None, Result, Ok, Err, ◌<◌, true, sym, ap, subst, ◌∙◌, add-one}
+use Rattle.std.proofs.Common.{◌≡◌, ℕ, suc, List, ◌∷◌, ◌++◌, take, drop, set, length, slice_get, Option, Some, None, Ok, Err, ◌<◌, true, sym, ap, ◌∙◌, add-one}
 use Rattle.std.specs.List.{insert, remove}
 use Rattle.std.proofs.lemmas.List.{take-append-drop, take-set, drop-set}
-use Rattle.std.proofs.lemmas.Option.{get_or_from_slice_get, slice_get_within}
+use Rattle.std.proofs.lemmas.Option.{slice_get_within}
 use Rattle.melon_raw.specs.declared.raw.Raw.{Raw}
 use Rattle.melon_raw.specs.Rows.{is_ascending, at_id, below, above, put_row, without_row}
 use Rattle.melon_table.specs.Places.{IsPlace}
 use Rattle.melon_table.proofs.Places.{Around, stands, goes}
-
--- the place that was found, in the rows themselves
-pub moved : (id : List ℕ) (rows seen : List Raw) (r : Result ℕ ℕ) → seen ≡ rows → IsPlace id seen r → IsPlace id rows r
-moved id rows seen r same h = subst (λ (x : List Raw). IsPlace id x r) same h
 
 set_is : (rows : List Raw) (place : ℕ) (row : Raw) → place < length rows → set rows place row ≡ take place rows ++ row ∷ drop (suc place) rows
 set_is rows place row l =
@@ -30,8 +26,8 @@ module _ (id : List ℕ) (rows : List Raw) (place : ℕ) (asc : is_ascending row
   here = stands id rows place h.0 asc h.1 h.2
 
   -- the row that stands there
-  pub found : (x : Raw) → x ≡ get_or rows place x → Some x ≡ at_id id rows
-  found x e = ap Some (e ∙ get_or_from_slice_get rows place h.0 x h.1) ∙ sym here.found
+  pub found : (x : Raw) → slice_get rows place ≡ Some x → Some x ≡ at_id id rows
+  found x e = sym e ∙ (h.1 ∙ sym here.found)
 
   pub removed : remove rows place ≡ without_row id rows
   removed = joined id rows _ _ _ here

@@ -4,3 +4,4 @@ pub mod Inside
 pub mod Kept
 pub mod Lent
 pub mod Places
+pub mod Stocked

@@ -10,6 +10,11 @@ pub record SeenTable : Type 0 where
   pub rows : List Raw
   pub spare : ℕ
 
+-- What contracts see of a shelf: its rows by place, and for how many more there is room.
+pub record SeenShelf : Type 0 where
+  pub rows : List Raw
+  pub spare : ℕ
+
 -- of each table its rows
 abbrev pub rows_of : List SeenTable → Rows
 rows_of tables = map (λ t. t.rows) tables

@@ -2,6 +2,7 @@
 #![tactic(auto)]
 
 mod search;
+mod shelf;
 pub mod table;
 pub mod tables;
 mod tests;

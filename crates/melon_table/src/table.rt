@@ -1,25 +1,23 @@
 ghost use Rattle.std.specs.Prelude.{◌≡◌, ◌+◌, ◌-◌, ◌<◌, ◌≤◌, [], length, slice_get, Some, None, OnOk, OnErr, MatchOption, OnSome};
-ghost use Rattle.std.specs.List.{insert};
 ghost use Rattle.std.specs.Option.{option_copied};
-ghost use Rattle.std.specs.Vec.{vec_len, vec_capacity};
 ghost use Rattle.melon_raw.specs.Rows.{Fits, at_id, put_row, without_row};
 ghost use Rattle.melon_table.specs.Dirty.{dirty_rows};
 ghost use Rattle.melon_table.specs.Kept.{IsKept};
 ghost use Rattle.melon_table.specs.Places.{FewSteps};
 
 use crate::search::{find_place, nth_dirty, place_of};
+use crate::shelf::Shelf;
 use melon_raw::{Id, Raw, Steps};
 use melon_schema::{ColumnSchema, List};
 use std::alloc::{AllocError, Global};
 use std::marker::Model;
-use std::mem;
 use std::sync::ledger::Ledger;
 
 /// The rows of one table, each id once, ascending by id, with room for more.
 #[derive(Debug, Drop)]
 pub struct Table {
     columns: List<ColumnSchema>,
-    rows: Vec<Raw>,
+    rows: Shelf,
 }
 
 impl Model for Table {
@@ -34,20 +32,6 @@ impl Model for Table {
     ghost invariant = { KeepsRows };
 }
 
-/// An insertion that takes no memory, since there is room.
-fn insert_reserved(rows: &mut Vec<Raw>, place: usize, row: Raw)
-    requires within { place ≤ vec_len rows.old }
-    requires room { vec_len rows.old < vec_capacity rows.old }
-    ensures items { rows.new.items ≡ insert rows.old.items place row }
-    ensures capacity { vec_capacity rows.new ≡ vec_capacity rows.old }
-    ensures len { vec_len rows.new ≡ vec_len rows.old + 1 }
-{
-    match rows.insert(place, row) {
-        Ok(()) => (),
-        Err(_) => unreachable!(),
-    }
-}
-
 impl Table {
     /// A table without rows.
     pub(crate) fn new(alloc: Global, columns: List<ColumnSchema>) -> Table
@@ -56,7 +40,7 @@ impl Table {
     {
         Table {
             columns,
-            rows: Vec::new(alloc),
+            rows: Shelf::new(alloc),
         }
     }
 
@@ -67,7 +51,7 @@ impl Table {
         ensures rows { self.new.rows ≡ self.old.rows }
         ensures err { OnErr result (self.new ≡ self.old) }
     {
-        self.rows.reserve(n)
+        self.rows.room(n)
     }
 
     /// How many rows there are.
@@ -84,8 +68,8 @@ impl Table {
         ensures cost { FewSteps (length self.now.rows) steps.old steps.new }
         ensures kept { IsKept self.now.columns self.now.rows }
     {
-        match place_of(self.rows.as_slice(), id, steps) {
-            Ok(place) => Some(&self.rows[place]),
+        match place_of(&self.rows, id, steps) {
+            Ok(place) => Some(self.rows.at(place)),
             Err(_) => None,
         }
     }
@@ -98,7 +82,7 @@ impl Table {
         ensures kept { IsKept self.now.columns self.now.rows }
     {
         steps.tick();
-        &self.rows[i]
+        self.rows.at(i)
     }
 
     /// The row with this many before it, of the rows that aren't synced.
@@ -107,7 +91,7 @@ impl Table {
         ensures cost { MatchOption result (steps.new ≡ steps.old) (λ _. steps.new ≡ steps.old + 1) }
         ensures kept { IsKept self.now.columns self.now.rows }
     {
-        match nth_dirty(self.rows.as_slice(), i) {
+        match nth_dirty(&self.rows, i) {
             Some(row) => {
                 steps.tick();
                 Some(row)
@@ -125,10 +109,10 @@ impl Table {
         ensures rows { self.new.rows ≡ put_row row self.old.rows }
         ensures spare { MatchOption result (self.new.spare + 1 ≡ self.old.spare) (λ _. self.new.spare ≡ self.old.spare) }
     {
-        match find_place(self.rows.as_slice(), &row.id) {
-            Ok(place) => Some(mem::replace(&mut self.rows[place], row)),
+        match find_place(&self.rows, &row.id) {
+            Ok(place) => Some(self.rows.replace(place, row)),
             Err(place) => {
-                insert_reserved(&mut self.rows, place, row);
+                self.rows.insert(place, row);
                 None
             }
         }
@@ -141,7 +125,7 @@ impl Table {
         ensures rows { self.new.rows ≡ without_row id.now self.old.rows }
         ensures spare { self.old.spare ≤ self.new.spare }
     {
-        match find_place(self.rows.as_slice(), id) {
+        match find_place(&self.rows, id) {
             Ok(place) => Some(self.rows.remove(place)),
             Err(_) => None,
         }

@@ -64,13 +64,32 @@ mod tests {
         are_in_order::<Brand>(new_counter(), table, absent)
     }
 
-    fn filled(alloc: Global, declared: &TableSchema) -> Result<Table, AllocError> {
+    fn filled(alloc: Global, declared: &TableSchema) -> Result<Table, AllocError>
+        ensures { IfOk result (λ table. table.columns ≡ declared.now.columns) }
+    {
         let mut posts = table_of(alloc, declared)?;
         let _ = put(alloc, &mut posts, declared, "p2")?;
         let _ = put(alloc, &mut posts, declared, "p4")?;
         let _ = put(alloc, &mut posts, declared, "p1")?;
         let _ = put(alloc, &mut posts, declared, "p3")?;
         let _ = put(alloc, &mut posts, declared, "p2")?;
+        Ok(posts)
+    }
+
+    fn take(alloc: Global, table: &mut Table, id: &str) -> bool
+        ensures { table.new.columns ≡ table.old.columns }
+    {
+        match Id::read(alloc, id) {
+            Ok(id) => table.remove(&id).is_some(),
+            Err(_) => false,
+        }
+    }
+
+    fn refilled(alloc: Global, declared: &TableSchema) -> Result<Table, AllocError> {
+        let mut posts = filled(alloc, declared)?;
+        let _ = take(alloc, &mut posts, "p4");
+        let _ = take(alloc, &mut posts, "p1");
+        let _ = put(alloc, &mut posts, declared, "p1")?;
         Ok(posts)
     }
 
@@ -86,6 +105,16 @@ mod tests {
         let mut posts = filled(rt.alloc(), schema.at(0))?;
         let absent = Id::read(rt.alloc(), "p4")?;
         assert!(rt; posts.remove(&absent).is_some());
+        assert!(rt; is_in_order(&posts, &absent));
+        Ok(())
+    }
+
+    #[test]
+    fn gives_a_slot_again(rt: HostRuntime) -> Result<(), Fail> {
+        let schema = schema_of(rt.alloc())?;
+        assert_eq!(rt; schema.len(), 1);
+        let posts = refilled(rt.alloc(), schema.at(0))?;
+        let absent = Id::read(rt.alloc(), "p4")?;
         assert!(rt; is_in_order(&posts, &absent));
         Ok(())
     }

@@ -1,62 +1,62 @@
-use Rattle.std.proofs.Common.{◌≡◌, ◌<◌, List, Some, None, set, refl, sym, ap, ◌∙◌, subst, Ok, Err, arith}
+use Rattle.std.proofs.Common.{◌≡◌, ◌<◌, List, None, refl, sym, ap, ◌∙◌, subst, arith}
 use Rattle.melon_raw.specs.declared.raw.Raw.{Raw}
 use Rattle.melon_raw.specs.Rows.{Fits, at_id, put_row}
 use Rattle.melon_table.specs.Kept.{IsKept}
 use Rattle.melon_table.proofs.ById.{IsKept-put_row}
-use Rattle.melon_table.proofs.Placed.{moved, found, absent, replaced, inserted}
+use Rattle.melon_table.proofs.Placed.{found, absent, replaced, inserted}
 use Rattle.melon_table.proofs.table.Table.put.Goals as goal
 
 pub invariant_of-self : goal.invariant_of-self
 invariant_of-self c =
-    let rows = c.self.inside.rows.items in
+    let rows = c.self.inside.rows.rows in
     let row = c.args.row in
-    let h = moved row.id rows _ (Ok c.in-Ok.place) c.as_slice.ensures.value c.in-Ok.ensures in
-    let new = ap (λ (r : Raw). set rows c.in-Ok.place r) c.replace.ensures.after ∙ replaced row.id rows c.in-Ok.place c.self.invariant.ascending h row refl in
+    let h = c.in-Ok.ensures in
+    let new = c.replace.ensures.rows ∙ replaced row.id rows c.in-Ok.place c.self.invariant.ascending h row refl in
     let fits = subst (λ t. Fits t.columns row) (sym c.self.view_is) c.requires.fits in
     subst (λ (xs : List Raw). IsKept c.self.inside.columns xs) (sym new) (IsKept-put_row c.self.inside.columns row rows fits c.self.invariant)
 
-pub insert_reserved-requires-clause-room : goal.insert_reserved-requires-clause-room
-insert_reserved-requires-clause-room c =
-    let rows = c.self.inside.rows.items in
+pub insert-requires-clause-room : goal.insert-requires-clause-room
+insert-requires-clause-room c =
+    let rows = c.self.inside.rows.rows in
     let id = c.args.row.id in
-    let h = moved id rows _ (Err c.in-Err.place) c.as_slice.ensures.value c.in-Err.ensures in
+    let h = c.in-Err.ensures in
     let none : at_id id c.args.self.now.rows ≡ None = sym (absent id rows c.in-Err.place h ∙ ap (λ t. at_id id t.rows) c.self.view_is) in
     let spare : 0 < c.args.self.now.spare = c.requires.room none in
     omega (arith, spare, ap (λ t. t.spare) c.self.view_is)
 
 pub invariant_of-self-in-Err : goal.invariant_of-self-in-Err
 invariant_of-self-in-Err c =
-    let rows = c.self.inside.rows.items in
+    let rows = c.self.inside.rows.rows in
     let row = c.args.row in
-    let h = moved row.id rows _ (Err c.in-Err.place) c.as_slice.ensures.value c.in-Err.ensures in
-    let new = c.insert_reserved.ensures.items ∙ inserted row.id rows c.in-Err.place h row refl in
+    let h = c.in-Err.ensures in
+    let new = c.insert.ensures.rows ∙ inserted row.id rows c.in-Err.place h row refl in
     let fits = subst (λ t. Fits t.columns row) (sym c.self.view_is) c.requires.fits in
     subst (λ (xs : List Raw). IsKept c.self.inside.columns xs) (sym new) (IsKept-put_row c.self.inside.columns row rows fits c.self.invariant)
 
 pub returns-in-Ok-clause-was : goal.returns-in-Ok-clause-was
 returns-in-Ok-clause-was c =
-    let rows = c.self.inside.rows.items in
+    let rows = c.self.inside.rows.rows in
     let id = c.args.row.id in
-    let h = moved id rows _ (Ok c.in-Ok.place) c.as_slice.ensures.value c.in-Ok.ensures in
-    ap Some c.replace.ensures.value ∙ (found id rows c.in-Ok.place c.self.invariant.ascending h c.index_mut.result.now c.index_mut.ensures.value ∙ ap (λ t. at_id id t.rows) c.self.view_is)
+    let h = c.in-Ok.ensures in
+    found id rows c.in-Ok.place c.self.invariant.ascending h c.replace.result c.replace.ensures.was ∙ ap (λ t. at_id id t.rows) c.self.view_is
 
 pub returns-in-Ok-clause-rows : goal.returns-in-Ok-clause-rows
 returns-in-Ok-clause-rows c =
-    let rows = c.self.inside.rows.items in
+    let rows = c.self.inside.rows.rows in
     let row = c.args.row in
-    let h = moved row.id rows _ (Ok c.in-Ok.place) c.as_slice.ensures.value c.in-Ok.ensures in
-    ap (λ (r : Raw). set rows c.in-Ok.place r) c.replace.ensures.after ∙ (replaced row.id rows c.in-Ok.place c.self.invariant.ascending h row refl ∙ ap (λ t. put_row row t.rows) c.self.view_is)
+    let h = c.in-Ok.ensures in
+    c.replace.ensures.rows ∙ (replaced row.id rows c.in-Ok.place c.self.invariant.ascending h row refl ∙ ap (λ t. put_row row t.rows) c.self.view_is)
 
 pub returns-in-Err-clause-was : goal.returns-in-Err-clause-was
 returns-in-Err-clause-was c =
-    let rows = c.self.inside.rows.items in
+    let rows = c.self.inside.rows.rows in
     let id = c.args.row.id in
-    let h = moved id rows _ (Err c.in-Err.place) c.as_slice.ensures.value c.in-Err.ensures in
+    let h = c.in-Err.ensures in
     absent id rows c.in-Err.place h ∙ ap (λ t. at_id id t.rows) c.self.view_is
 
 pub returns-in-Err-clause-rows : goal.returns-in-Err-clause-rows
 returns-in-Err-clause-rows c =
-    let rows = c.self.inside.rows.items in
+    let rows = c.self.inside.rows.rows in
     let row = c.args.row in
-    let h = moved row.id rows _ (Err c.in-Err.place) c.as_slice.ensures.value c.in-Err.ensures in
-    c.insert_reserved.ensures.items ∙ (inserted row.id rows c.in-Err.place h row refl ∙ ap (λ t. put_row row t.rows) c.self.view_is)
+    let h = c.in-Err.ensures in
+    c.insert.ensures.rows ∙ (inserted row.id rows c.in-Err.place h row refl ∙ ap (λ t. put_row row t.rows) c.self.view_is)

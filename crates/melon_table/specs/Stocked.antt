@@ -1,0 +1,35 @@
+-- What a shelf's fields stand for.
+use Rattle.std.specs.Prelude.{◌≢◌, ℕ, ◌+◌, ◌≤◌, List, [], ◌∷◌}
+use Rattle.std.specs.List.{AllByRecursion, filter_map}
+use Rattle.std.specs.Vec.{vec_len, vec_capacity}
+use Rattle.slab.specs.Slab.{Slab, get, ContainsKey, HasRoomFor}
+use Rattle.melon_raw.specs.declared.raw.Raw.{Raw}
+use Rattle.melon_table.specs.declared.shelf.Shelf.TheInside.{Inside}
+use Rattle.melon_table.specs.Seen.{SeenShelf}
+
+-- the rows of these keys
+abbrev pub rows_at : Slab Raw → List ℕ → List Raw
+rows_at rows keys = filter_map (get rows) keys
+
+-- each key has a row
+abbrev pub AllHeld : Slab Raw → List ℕ → Type 0
+AllHeld rows keys = AllByRecursion (ContainsKey rows) keys
+
+-- this key is none of them
+abbrev pub Lacks : List ℕ → ℕ → Type 0
+Lacks keys key = AllByRecursion (λ other. other ≢ key) keys
+
+-- no two of the keys are one
+abbrev pub AreApart : List ℕ → Type 0
+AreApart [] = Unit {0}
+AreApart (key ∷ keys) = Lacks keys key × AreApart keys
+
+abbrev pub shelf_in : Inside → SeenShelf
+shelf_in s = record { rows = rows_at s.rows s.order.items; spare = s.spare }
+
+-- Each key has a row of its own, and the spare rows fit without memory.
+pub record KeepsStock (s : Inside) : Type 0 where
+  pub held : AllHeld s.rows s.order.items
+  pub apart : AreApart s.order.items
+  pub keys_fit : vec_len s.order + s.spare ≤ vec_capacity s.order
+  pub rows_fit : HasRoomFor s.rows s.spare
