@@ -18,6 +18,5 @@ mod value;
 mod walk;
 
 pub use answer::run;
-pub use lookup::row_of;
 pub use matching::matches;
 pub use projection::{Shown, project};

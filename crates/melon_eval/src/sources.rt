@@ -15,7 +15,7 @@ ghost use Rattle.melon_eval.specs.Sources.{offered, all_offered};
 
 use crate::asks::{Ask, meets_any};
 use crate::groups::{Group, group_by_key};
-use crate::lookup::{row_of, table_at};
+use crate::lookup::table_at;
 use crate::value::{Value, value_at};
 use crate::walk::Offer;
 use melon_query::{Col, Join, Joined};
@@ -52,7 +52,7 @@ fn visible_row<'a, L: Ledger>(
     ensures { option_to_list (option_copied result) ≡ filter (λ row. is_visible row.status && names (Words id.now) row.id) (rows_in (option_copied rows.entry)) }
 {
     match rows {
-        Some(table) => match row_of(table, id, steps) {
+        Some(table) => match table.find(id, steps) {
             Some(row) => { if row.is_visible() { Some(row) } else { None } }
             None => None,
         },

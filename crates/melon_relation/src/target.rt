@@ -12,7 +12,6 @@ ghost use Rattle.melon_relation.specs.Targets.{seen_target};
 ghost use Rattle.melon_relation.specs.Watching.{is_same_parent};
 
 use crate::Relation;
-use melon_eval::row_of;
 use melon_raw::{Datum, Raw, Steps};
 use melon_schema::Twin;
 use melon_table::Tables;
@@ -39,7 +38,7 @@ fn row_at<'a, L: Ledger>(
     ensures { option_copied result ≡ at (rows_of tables.now) (key table id.now) }
 {
     if table < tables.len() {
-        row_of(tables.of(table), id, steps)
+        tables.of(table).find(id, steps)
     } else {
         None
     }

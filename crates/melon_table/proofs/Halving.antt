@@ -95,8 +95,5 @@ module _ (id : List ℕ) (rows : List Raw) (low high start now m : ℕ) (r : Raw
     cost = fewer (length rows) start (high - low) (m - low) now (omega arith) (omega (arith, at)) kept.cost;
   }
 
-pub compared : (r : Raw) (id : List ℕ) (answer o : Ordering) → answer ≡ id_cmp r.id id → answer ≡ o → id_cmp r.id id ≡ o
-compared r id answer o found was = sym found ∙ was
-
 pub equal_ids : (a b : List ℕ) → id_cmp a b ≡ Equal → a ≡ b
 equal_ids a b e = (bytes_eq-Decides a b).0 (sym (is_eq-slice_cmp a b) ∙ ap is_eq e)

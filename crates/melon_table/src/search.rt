@@ -13,7 +13,7 @@ use std::marker::Brand;
 use std::sync::ledger::{Blank, Ledger};
 
 /// Where an id stands, or where it would go.
-pub fn place_of<L: Ledger>(rows: &Shelf, id: &Id, steps: &mut Steps<L>) -> Result<usize, usize>
+pub fn place_of<L: Ledger>(rows: &Shelf, id: &str, steps: &mut Steps<L>) -> Result<usize, usize>
     requires { is_ascending rows.now.rows ≡ true }
     ensures place { IsPlace id.now rows.now.rows result }
     ensures cost { FewSteps (length rows.now.rows) steps.old steps.new }
@@ -23,7 +23,7 @@ pub fn place_of<L: Ledger>(rows: &Shelf, id: &Id, steps: &mut Steps<L>) -> Resul
     while low < high {
         let middle = low + (high - low) / 2;
         steps.tick();
-        match rows.at(middle).id.order(id) {
+        match rows.at(middle).id.as_str().cmp(id) {
             Ordering::Less => low = middle + 1,
             Ordering::Equal => return Ok(middle),
             Ordering::Greater => high = middle,
@@ -40,7 +40,7 @@ fn place_counted<L: Ledger>(counter: Blank, rows: &Shelf, id: &Id) -> Result<usi
     ensures { IsPlace id.now rows.now.rows result }
 {
     let mut steps = Steps::<L>::open(counter);
-    place_of(rows, id, &mut steps)
+    place_of(rows, id.as_str(), &mut steps)
 }
 
 /// Where an id stands, or where it would go, with a counter of its own.

@@ -68,6 +68,15 @@ impl Table {
         ensures cost { FewSteps (length self.now.rows) steps.old steps.new }
         ensures kept { IsKept self.now.columns self.now.rows }
     {
+        self.find(id.as_str(), steps)
+    }
+
+    /// The row whose id is a text.
+    pub fn find<L: Ledger>(&self, id: &str, steps: &mut Steps<L>) -> Option<&Raw>
+        ensures found { option_copied result ≡ at_id id.now self.now.rows }
+        ensures cost { FewSteps (length self.now.rows) steps.old steps.new }
+        ensures kept { IsKept self.now.columns self.now.rows }
+    {
         match place_of(&self.rows, id, steps) {
             Ok(place) => Some(self.rows.at(place)),
             Err(_) => None,

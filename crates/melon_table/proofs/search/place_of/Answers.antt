@@ -1,5 +1,6 @@
-use Rattle.std.proofs.Common.{◌+◌, ◌-◌, ◌/◌, refl, sym, subst}
-use Rattle.melon_table.proofs.Halving.{Kept, go_right, go_left, compared, equal_ids, ascends_at}
+use Rattle.std.proofs.Common.{◌≡◌, ◌+◌, ◌-◌, ◌/◌, List, ℕ, refl, sym, subst, ap, ◌∙◌}
+use Rattle.melon_raw.specs.Order.{id_cmp}
+use Rattle.melon_table.proofs.Halving.{Kept, go_right, go_left, equal_ids, ascends_at}
 use Rattle.melon_table.proofs.search.place_of.Goals as goal
 
 pub loop-low-preserved-in-Less : goal.loop-low-preserved-in-Less
@@ -9,7 +10,7 @@ loop-low-preserved-in-Less g c =
     let low = c.loop-low.low in
     let high = c.loop-low.high in
     let m = low + (high - low) / 2 in
-    let less = compared c.at.result.now id c.order.result _ c.order.ensures c.in-Less.is in
+    let less = ap (λ (i : List ℕ). id_cmp i id) (sym c.as_str.ensures) ∙ sym c.cmp.ensures ∙ c.in-Less.is in
     subst (λ now. Kept id rows (m + 1) high c.args.steps.now now) (sym c.tick.ensures)
     (go_right id rows low high c.args.steps.now c.loop-low.steps m c.at.result.now (ascends_at rows c.requires) c.loop-low-test.true refl c.at.ensures c.loop-low.invariant less)
 
@@ -20,7 +21,7 @@ loop-low-preserved g c =
     let low = c.loop-low.low in
     let high = c.loop-low.high in
     let m = low + (high - low) / 2 in
-    let more = compared c.at.result.now id c.order.result _ c.order.ensures c.in-Greater.is in
+    let more = ap (λ (i : List ℕ). id_cmp i id) (sym c.as_str.ensures) ∙ sym c.cmp.ensures ∙ c.in-Greater.is in
     subst (λ now. Kept id rows low m c.args.steps.now now) (sym c.tick.ensures)
     (go_left id rows low high c.args.steps.now c.loop-low.steps m c.at.result.now (ascends_at rows c.requires) c.loop-low-test.true refl c.at.ensures c.loop-low.invariant more)
 
@@ -28,4 +29,4 @@ pub returns-in-Equal-clause-place : goal.returns-in-Equal-clause-place
 returns-in-Equal-clause-place g c =
     let rows = c.args.rows.now.rows in
     let m = c.loop-low.low + (c.loop-low.high - c.loop-low.low) / 2 in
-    (c.at.result.now, c.at.ensures, equal_ids _ _ (compared c.at.result.now c.args.id.now c.order.result _ c.order.ensures c.in-Equal.is))
+    (c.at.result.now, c.at.ensures, equal_ids _ _ (ap (λ (i : List ℕ). id_cmp i c.args.id.now) (sym c.as_str.ensures) ∙ sym c.cmp.ensures ∙ c.in-Equal.is))

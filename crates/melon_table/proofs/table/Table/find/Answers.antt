@@ -1,7 +1,7 @@
 use Rattle.std.proofs.Common.{ap, ◌∙◌}
 use Rattle.melon_raw.specs.Rows.{at_id}
 use Rattle.melon_table.proofs.Placed.{found, absent}
-use Rattle.melon_table.proofs.table.Table.get.Goals as goal
+use Rattle.melon_table.proofs.table.Table.find.Goals as goal
 
 pub returns-in-Ok-clause-found : goal.returns-in-Ok-clause-found
 returns-in-Ok-clause-found g c =
