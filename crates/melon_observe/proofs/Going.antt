@@ -112,6 +112,11 @@ module _ (board : SeenBoard) (was now : Observed) (turns : List Turn) (first : �
             subst (λ (k : ℕ). later ≤ first + changes_between was.at k board.entries) (sym at) up;
       }
 
+  -- no turn goes back
+  pub later_than : (t : Turn) (next : Observed) (steps later : ℕ) → HasTurned board was now turns first steps → IsTurn board now next t steps later → was.at ≤ length board.entries → was.at ≤ next.at
+  later_than (Emit n e) next steps later so_far turn within = let at : next.at ≡ n = ap (λ (o : Observed). o.at) turn.moves in omega (arith, at, so_far.later, turn.ahead.0)
+  later_than (Still n) next steps later so_far turn within = let at : next.at ≡ n = ap (λ (o : Observed). o.at) turn.moves in omega (arith, at, turn.ahead, within)
+
   -- the turn that is still
   pub turned_last : (t : Turn) (next : Observed) (steps later : ℕ) → is_still t ≡ true → HasTurned board was now turns first steps → IsTurn board now next t steps later
       → HasEnded board was next (turns ++ t ∷ []) first later

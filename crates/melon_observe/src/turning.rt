@@ -24,7 +24,7 @@ fn is_still(turn: &Turn) -> bool
 }
 
 /// Takes turns until the observer is still, and gives all of them; the last is the one that is still. After an error the
-/// turns that were taken stay taken.
+/// turns that were taken stay taken, and the observer never goes back.
 pub fn turn_until_still<L: Ledger>(
     observer: &mut Observer,
     alloc: Global,
@@ -35,6 +35,7 @@ pub fn turn_until_still<L: Ledger>(
         → IfOk result (λ turns. turns.items ≡ turns_from observer.old.query observer.old.shape (history opening board.now.entries) observer.old.at) }
     ensures stands { (schema : Sequence TableSchema) (opening : Rows) → Follows schema opening board.now → Stands (history opening board.now.entries) observer.old
         → Stands (history opening board.now.entries) observer.new }
+    ensures later { observer.old.at ≤ length board.now.entries → observer.old.at ≤ observer.new.at }
     ensures end { IfOk result (λ turns. observer.new.at ≡ length board.now.entries) }
     ensures query { observer.new.query ≡ observer.old.query }
     ensures shape { observer.new.shape ≡ observer.old.shape }

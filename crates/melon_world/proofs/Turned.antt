@@ -16,10 +16,11 @@ use Rattle.melon_machine.specs.Apps.{Told, told, place_of, on_found, on_place, p
 use Rattle.melon_machine.specs.Outcomes.{stepped, ends_with}
 use Rattle.melon_machine.proofs.Legality.{legal_set, observed_legal, within_set}
 use Rattle.melon_machine.proofs.Simulated.{names_same, place_same, legal_at}
-use Rattle.melon_world.specs.Handled.{watch_bound, observer_bound, place_bound, app_bound, apps_bound, turn_bound, IsAppLeft, AreTurnedOn, StandsAt}
-use Rattle.melon_world.proofs.Meeting.{slice_get_or}
+use Rattle.melon_world.specs.Handled.{watch_bound, observer_bound, place_bound, app_bound, apps_bound, turn_bound, IsTurnedOn, IsAppLeft, AreTurnedOn, AreLeft, StandsAt}
+use Rattle.melon_world.proofs.Meeting.{slice_get_or, put_same}
 use Rattle.melon_world.proofs.Places.{named_place}
 use Rattle.std.proofs.lemmas.List.Quantifiers.{position-Some}
+use Rattle.std.proofs.lemmas.Slice.Eq.{bytes_eq-Decides}
 
 some_is : {X : Type 0} {x y : X} → Some x ≡ Some y → x ≡ y
 some_is e = grind (arith, e)
@@ -85,8 +86,20 @@ module _ (app : KeptApp) (observer : List ℕ) (place : ℕ) (k : KeptObserver) 
         ∙ ap (λ f. kept_told (turns_of name a place f observer)) found.1
         ∙ (λ i. record { app = kept_set (turned a found.0) left is i; items = sym shown i })
 
-    pub left_turned : (left : KeptObserver) → StandsAt a found.0 left → IsAppLeft a app (kept_app app.store app.queue (set app.observers place left))
-    left_turned left s = inr (place, s.at, found.0, found.1, s.within, sym (kept_set (named found.0.name found.0.watch s.at) left s.is))
+    -- its name is the one that was looked for
+    named_so : found.0.name ≡ observer
+    named_so = ap (λ (o : KeptObserver). o.name) found.2 ∙ (bytes_eq-Decides k.name observer).0
+        (ap (λ (o : KeptObserver). bytes_eq o.name observer) here ∙ (position-Some (λ (o : KeptObserver). bytes_eq o.name observer) app.observers place k (named_place observer app.observers ∙ sym at)).1)
+
+    pub left_turned : (left : KeptObserver) → StandsAt a found.0 left → IsTurnedOn observer a (kept_app app.store app.queue (set app.observers place left))
+    left_turned left s =
+        let o = found.0 in
+        let now = named observer o.watch s.at in
+        record {
+          next = observed_by a (set a.observers place now);
+          gone = record { place = place; old = o; at = s.at; there = found.1; called = named_so; later = s.later; within = s.within; is = refl };
+          is = sym (kept_set now left (s.is ∙ ap (λ (n : List ℕ). observer_kept (history_of a) (named n o.watch s.at)) named_so));
+        }
 
 -- ---- all apps
 
@@ -118,30 +131,33 @@ module _ (apps : List KeptApp) (name : List ℕ) (place : ℕ) (k : KeptApp) (at
         ∙ ap (λ f. with_end kept_apps (on_found with_history machines name (λ app. Done (turn_app name observer app)) place f)) app_found.1
         ∙ (λ i. Done (ends_with (set_is (turn_app name observer app_found.0).app left (ap (λ (t : Told KeptApp). t.app) is) i) (ap (λ (t : Told KeptApp). t.items) is i)))
 
-    pub left_on : (left : KeptApp) → IsAppLeft app_found.0 k left → AreTurnedOn machines (set apps place left)
-    left_on left (inl unchanged) = record {
-      place = place;
-      app = app_found.0;
-      observers = app_found.0.observers;
-      there = app_found.1;
-      after = record {
-        same = set_is app_found.0 left (app_found.2 ∙ sym unchanged);
-        legal = legal_set machines place app_found.0 h.legal found_legal;
-      };
-    }
-    left_on left (inr moved) =
+    app_named : app_found.0.name ≡ name
+    app_named = ap (λ (w : KeptApp). w.store.name) app_found.2 ∙ (bytes_eq-Decides k.store.name name).0
+        (ap (λ (w : KeptApp). bytes_eq w.store.name name) here ∙ (position-Some (λ (w : KeptApp). bytes_eq w.store.name name) apps place k (sym at)).1)
+
+    left_on : (observer : List ℕ) (left : KeptApp) → IsTurnedOn observer app_found.0 left → AreTurnedOn name observer machines (set apps place left)
+    left_on observer left turned =
         let a = app_found.0 in
-        let observers = set a.observers moved.0 (named moved.2.name moved.2.watch moved.1) in
+        let g = turned.gone in
+        let now = named observer g.old.watch g.at in
         record {
           place = place;
           app = a;
-          observers = observers;
+          next = turned.next;
           there = app_found.1;
+          called = app_named;
+          gone = g;
           after = record {
-            same = set_is (observed_by a observers) left (sym moved.5);
-            legal = legal_set machines place (observed_by a observers) h.legal (observed_legal a found_legal observers (within_set a found_legal a.observers moved.0 (named moved.2.name moved.2.watch moved.1) moved.4 found_legal.within));
+            same = set_is turned.next left (sym turned.is);
+            legal = legal_set machines place turned.next h.legal
+                (subst IsLegalApp (sym g.is) (observed_legal a found_legal (set a.observers g.place now) (within_set a found_legal a.observers g.place now g.within found_legal.within)));
           };
         }
+
+  -- what a turn of the app leaves of all
+  pub apps_left : (observer : List ℕ) (left : KeptApp) → IsAppLeft observer k left → AreLeft name observer apps (set apps place left)
+  apps_left observer left (inl unchanged) = inl (put_same apps place k left here unchanged)
+  apps_left observer left (inr turned) = inr (λ machines h. left_on machines h observer left (turned (app_found machines h).0 (app_found machines h).2 (found_legal machines h)))
 
 -- no app of that name is open
 pub turn_missing : (apps : List KeptApp) (name observer : List ℕ) (machines : List App) → AreKeptAs machines apps → None ≡ place_of as_kept name apps

@@ -95,17 +95,17 @@ owned_at h watch old new is stands r = (λ i. Owns (record { relation = r i; at 
 -- ---- what a turn leaves
 
 module _ (h : History) (at : ℕ) (watch : Watch) (within : at ≤ length h.entries) where
-  pub answer_stands : (old new : Observed) → kept_at h at watch ≡ Answers old → (Stands h old → Stands h new) → new.query ≡ old.query → new.shape ≡ old.shape → StandsOn h watch (Answers new)
-  answer_stands old new is stands q s =
+  pub answer_stands : (old new : Observed) → kept_at h at watch ≡ Answers old → (Stands h old → Stands h new) → (old.at ≤ length h.entries → old.at ≤ new.at) → new.query ≡ old.query → new.shape ≡ old.shape → StandsOn h at watch (Answers new)
+  answer_stands old new is stands goes q s =
       let was = stood h at watch old within is in
       let now = stands was.0 in
-      record { at = new.at; within = now.within; is = answered_at h watch old new was.1 now q s }
+      record { at = new.at; later = omega (arith, was.2, goes was.0.within); within = now.within; is = answered_at h watch old new was.1 now q s }
 
-  pub owner_stands : (old new : Watched) → kept_at h at watch ≡ Owns old → (Watches h old → Watches h new) → new.relation ≡ old.relation → StandsOn h watch (Owns new)
-  owner_stands old new is stands r =
+  pub owner_stands : (old new : Watched) → kept_at h at watch ≡ Owns old → (Watches h old → Watches h new) → (old.at ≤ length h.entries → old.at ≤ new.at) → new.relation ≡ old.relation → StandsOn h at watch (Owns new)
+  owner_stands old new is stands goes r =
       let was = watched h at watch old within is in
       let now = stands was.0 in
-      record { at = new.at; within = now.within; is = owned_at h watch old new was.1 now r }
+      record { at = new.at; later = omega (arith, was.2, goes was.0.within); within = now.within; is = owned_at h watch old new was.1 now r }
 
   module _ (tables : List TableSchema) (app name : List ℕ) (items : List Item) where
     pub answer_turned : (old new : Observed) → kept_at h at watch ≡ Answers old → (Stands h old → Stands h new) → new.query ≡ old.query → new.shape ≡ old.shape → new.at ≡ length h.entries

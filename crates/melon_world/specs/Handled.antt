@@ -25,7 +25,7 @@ use Rattle.melon_script.specs.SeenLine.{SeenLine}
 use Rattle.melon_script.specs.declared.item.Given.{Given}
 use Rattle.melon_world.specs.declared.kind.LineKind.{LineKind}
 use Rattle.melon_world.specs.declared.kind.LineKind.TheVariants as kinds
-use Rattle.melon_machine.specs.Legal.{AreKeptAs, IsKeptAs}
+use Rattle.melon_machine.specs.Legal.{IsLegalApp, AreKeptAs, IsKeptAs}
 use Rattle.melon_machine.specs.Showing.{given_parent}
 use Rattle.melon_machine.specs.State.{App, Observer, named, observed_by, history_of, Watch, kept_at, KeptWatch, Answers, Owns, KeptObserver, KeptApp, Machine, KeptMachine, as_kept, observer_kept, app_kept}
 use Rattle.melon_machine.specs.Apps.{place_of, place_in}
@@ -114,38 +114,60 @@ IsBounded (Some bound) before now = now ≤ before + bound
 
 -- ---- want of memory
 
--- what is watched is kept as at some position of the history
-pub record StandsOn (h : History) (watch : Watch) (left : KeptWatch) : Type 0 where
+-- what is watched is kept as at some position of the history, and not before this one
+pub record StandsOn (h : History) (was : ℕ) (watch : Watch) (left : KeptWatch) : Type 0 where
   pub at : ℕ
+  pub later : was ≤ at
   pub within : at ≤ length h.entries
   pub is : left ≡ kept_at h at watch
 
--- the observer stands at some position of the history
+-- the observer stands at some position of the history, and not before its own
 pub record StandsAt (app : App) (o : Observer) (left : KeptObserver) : Type 0 where
   pub at : ℕ
+  pub later : o.at ≤ at
   pub within : at ≤ length app.entries
   pub is : left ≡ observer_kept (history_of app) (named o.name o.watch at)
 
--- the app is as it was, or one of its observers has taken turns
-abbrev pub IsAppLeft : App → KeptApp → KeptApp → Type 0
-IsAppLeft a was left = (left ≡ was) ⊎ ((place at : ℕ) × (o : Observer) × (slice_get a.observers place ≡ Some o) × (at ≤ length a.entries) × (left ≡ app_kept (observed_by a (set a.observers place (named o.name o.watch at)))))
+-- In an app the observer of this name has gone on: it watches what it watched, and stands within the history and not before its
+-- old position. All else is as it was.
+pub record HasGoneOn (observer : List ℕ) (app left : App) : Type 0 where
+  pub place : ℕ
+  pub old : Observer
+  pub at : ℕ
+  pub there : slice_get app.observers place ≡ Some old
+  pub called : old.name ≡ observer
+  pub later : old.at ≤ at
+  pub within : at ≤ length app.entries
+  pub is : left ≡ observed_by app (set app.observers place (named observer old.watch at))
 
--- This is how the code has apps of which one has an observer that has taken turns.
-pub record AreTurnedOn (apps : List App) (left : List KeptApp) : Type 0 where
+-- the same of an app that the code has so
+pub record IsTurnedOn (observer : List ℕ) (app : App) (left : KeptApp) : Type 0 where
+  pub next : App
+  pub gone : HasGoneOn observer app next
+  pub is : left ≡ app_kept next
+
+-- the app is as it was, or the observer of this name has gone on
+abbrev pub IsAppLeft : List ℕ → KeptApp → KeptApp → Type 0
+IsAppLeft observer was left = (left ≡ was) ⊎ ((app : App) → app_kept app ≡ was → IsLegalApp app → IsTurnedOn observer app left)
+
+-- This is how the code has apps of which the one of this name has an observer, of that name, that has gone on.
+pub record AreTurnedOn (name observer : List ℕ) (apps : List App) (left : List KeptApp) : Type 0 where
   pub place : ℕ
   pub app : App
-  pub observers : List Observer
+  pub next : App
   pub there : slice_get apps place ≡ Some app
-  pub after : AreKeptAs (set apps place (observed_by app observers)) left
+  pub called : app.name ≡ name
+  pub gone : HasGoneOn observer app next
+  pub after : AreKeptAs (set apps place next) left
 
--- as before, or with an observer that has taken turns
-abbrev pub AreLeft : List KeptApp → List KeptApp → Type 0
-AreLeft was left = (left ≡ was) ⊎ ((apps : List App) → AreKeptAs apps was → AreTurnedOn apps left)
+-- the apps are as they were, or an observer has gone on
+abbrev pub AreLeft : List ℕ → List ℕ → List KeptApp → List KeptApp → Type 0
+AreLeft name observer was left = (left ≡ was) ⊎ ((apps : List App) → AreKeptAs apps was → AreTurnedOn name observer apps left)
 
--- The apps are as before, or one has an observer that has taken turns. The server is as it was.
-pub record IsLeft (was left : KeptMachine) : Type 0 where
-  pub apps : AreLeft was.apps left.apps
-  pub server : left.server ≡ was.server
+-- A turn has left the server as it was, and the apps too, but that its observer may have gone on. Any other line has done nothing.
+abbrev pub IsLeft : SeenLine → KeptMachine → KeptMachine → Type 0
+IsLeft (lines.Turn name observer) was left = AreLeft name observer was.apps left.apps × (left.server ≡ was.server)
+IsLeft line was left = left ≡ was
 
 -- what a watch's turn prints before the item that it is still
 abbrev pub changed_items : List TableSchema → List ℕ → List ℕ → ℕ → Option (ℕ × Parent) → Item → List Item

@@ -96,6 +96,7 @@ fn turn_answer<L: Ledger>(
         → IfOk result (λ items. items ≡ map (answer_turn a.schema.tables app.now name.now observer.old.query observer.old.shape) (turns_from observer.old.query observer.old.shape (history_of a) observer.old.at)) }
     ensures quiet { IfOk result (λ items. list_any is_of_keeper items ≡ false) }
     ensures stands { (a : MachineApp) → store_of a ≡ store.now → IsLegalApp a → Stands (history_of a) observer.old → Stands (history_of a) observer.new }
+    ensures later { observer.old.at ≤ length store.now.entries → observer.old.at ≤ observer.new.at }
     ensures end { IfOk result (λ items. observer.new.at ≡ length store.now.entries) }
     ensures query { observer.new.query ≡ observer.old.query }
     ensures shape { observer.new.shape ≡ observer.old.shape }
@@ -117,6 +118,7 @@ fn turn_owner(
         → IfOk result (λ items. items ≡ owner_turns a.schema.tables app.now name.now owner.old.relation (length a.entries) (watch_turn owner.old.relation (history_of a) owner.old.at)) }
     ensures quiet { IfOk result (λ items. list_any is_of_keeper items ≡ false) }
     ensures stands { (a : MachineApp) → store_of a ≡ store.now → Watches (history_of a) owner.old → Watches (history_of a) owner.new }
+    ensures later { owner.old.at ≤ length store.now.entries → owner.old.at ≤ owner.new.at }
     ensures end { IfOk result (λ items. owner.new.at ≡ length store.now.entries) }
     ensures relation { owner.new.relation ≡ owner.old.relation }
 {
@@ -172,7 +174,7 @@ fn turn_watching<L: Ledger>(
     ensures turned { (a : MachineApp) (watch : Watch) (at : ℕ) → store_of a ≡ store.now → IsLegalApp a → at ≤ length a.entries → kept_at (history_of a) at watch ≡ watch_in watching.old
         → IfOk result (λ items. (watch_in watching.new ≡ kept_at (history_of a) (length a.entries) watch) × (items ≡ turn_items a.schema.tables app.now name.now (history_of a) at watch)) }
     ensures quiet { IfOk result (λ items. list_any is_of_keeper items ≡ false) }
-    ensures stands { (a : MachineApp) (watch : Watch) (at : ℕ) → store_of a ≡ store.now → IsLegalApp a → at ≤ length a.entries → kept_at (history_of a) at watch ≡ watch_in watching.old → StandsOn (history_of a) watch (watch_in watching.new) }
+    ensures stands { (a : MachineApp) (watch : Watch) (at : ℕ) → store_of a ≡ store.now → IsLegalApp a → at ≤ length a.entries → kept_at (history_of a) at watch ≡ watch_in watching.old → StandsOn (history_of a) at watch (watch_in watching.new) }
     ensures cost { IfOk result (λ items. IsBounded (watch_bound store.now (watch_in watching.old)) steps.old steps.new) }
 {
     match watching {
@@ -210,7 +212,7 @@ fn turn_placed<L: Ledger>(
     requires { is_id observer.now ≡ true }
     ensures turned { (a : MachineApp) → app_kept a ≡ app.old → IsLegalApp a → IfOk result (λ items. kept_told (turn_app name.now observer.now a) ≡ record { app = app.new; items = items }) }
     ensures quiet { IfOk result (λ items. list_any is_of_keeper items ≡ false) }
-    ensures left { (a : MachineApp) → app_kept a ≡ app.old → IsLegalApp a → IsAppLeft a app.old app.new }
+    ensures left { IsAppLeft observer.now app.old app.new }
     ensures cost { IfOk result (λ items. IsBounded (app_bound observer.now (Some app.old)) steps.old steps.new) }
 {
     match place_in(app.observers.as_slice(), observer.as_str()) {
@@ -231,7 +233,7 @@ fn turn_app<L: Ledger>(
 ) -> Result<Answer, AllocError>
     ensures turned { (a : MachineApp) → app_kept a ≡ app.old → IsLegalApp a → IfOk result (λ items. kept_told (turn_app name.now observer.now a) ≡ record { app = app.new; items = items }) }
     ensures quiet { IfOk result (λ items. list_any is_of_keeper items ≡ false) }
-    ensures left { (a : MachineApp) → app_kept a ≡ app.old → IsLegalApp a → IsAppLeft a app.old app.new }
+    ensures left { IsAppLeft observer.now app.old app.new }
     ensures cost { IfOk result (λ items. IsBounded (app_bound observer.now (Some app.old)) steps.old steps.new) }
 {
     if is_id(observer.as_str()) {
@@ -252,7 +254,7 @@ pub fn turn<L: Ledger>(
     ensures turned { (machines : Sequence MachineApp) → AreKeptAs machines apps.old.items
         → IfOk result (λ items. with_end kept_apps (app_step machines (lines.Turn app.now observer.now)) ≡ Done (ends_with apps.new.items items)) }
     ensures quiet { IfOk result (λ items. list_any is_of_keeper items ≡ false) }
-    ensures left { AreLeft apps.old.items apps.new.items }
+    ensures left { AreLeft app.now observer.now apps.old.items apps.new.items }
     ensures cost { IfOk result (λ items. IsBounded (turn_bound apps.old.items app.now observer.now) steps.old steps.new) }
 {
     match place_of(apps.as_slice(), app.as_str()) {

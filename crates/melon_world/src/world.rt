@@ -121,7 +121,7 @@ impl World {
         steps: &mut Steps<N>,
     ) -> Result<Answer, AllocError>
         ensures met { IfOk result (λ items. MeetsAs (λ m. step m (seen line.now)) self.old (K.holds keeper.old) (K.holds keeper.new) (K.faults keeper.old) (K.faults keeper.new) (ends_with self.new items)) }
-        ensures left { OnErr result (IsLeft self.old self.new) }
+        ensures left { OnErr result (IsLeft (seen line.now) self.old self.new) }
         ensures held { OnErr result (HoldsAsBefore (K.holds keeper.old) (K.holds keeper.new)) }
         ensures later { K.faults keeper.old ≤ K.faults keeper.new }
         ensures cause { IfOk result (λ items. list_any is_of_keeper items ≡ true → Rose (K.faults keeper.old) (K.faults keeper.new)) }

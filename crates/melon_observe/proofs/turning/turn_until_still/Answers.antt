@@ -2,7 +2,7 @@ use Rattle.std.proofs.Common.{◌≡◌, ◌∷◌, [], ◌++◌, List, length, 
 use Rattle.melon_views.specs.declared.emission.Turn.{Turn}
 use Rattle.melon_views.specs.Standing.{Observed, Stands}
 use Rattle.melon_observe.specs.Journals.{history}
-use Rattle.melon_observe.proofs.Going.{HasTurned, turn_is, turned_start, since_more, turned_more, turned_last, falls}
+use Rattle.melon_observe.proofs.Going.{HasTurned, turn_is, turned_start, since_more, turned_more, turned_last, later_than, falls}
 use Rattle.melon_observe.proofs.turning.turn_until_still.Goals as goal
 
 pub loop-turns-init : goal.loop-turns-init
@@ -18,6 +18,9 @@ returns-in_err-turn-clause-query g c = ap (λ (o : Observed). o.query) c.in_err-
 pub returns-in_err-turn-clause-shape : goal.returns-in_err-turn-clause-shape
 returns-in_err-turn-clause-shape g c = ap (λ (o : Observed). o.shape) c.in_err-turn.ensures.err ∙ c.loop-turns.invariant.since.shape
 
+pub returns-in_err-turn-clause-later : goal.returns-in_err-turn-clause-later
+returns-in_err-turn-clause-later g c = λ within. let at = ap (λ (o : Observed). o.at) c.in_err-turn.ensures.err in omega (arith, at, c.loop-turns.invariant.later)
+
 pub returns-in_err-push-clause-stands : goal.returns-in_err-push-clause-stands
 returns-in_err-push-clause-stands g c =
     let was = c.args.observer.now in
@@ -28,6 +31,17 @@ returns-in_err-push-clause-stands g c =
     let later = c.turn.new.steps in
     let turn = turn_is board l.observer next t l.steps later c.in_ok-turn.ensures.turned c.in_ok-turn.ensures.moved c.in_ok-turn.ensures.ahead c.in_ok-turn.ensures.cost in
     (since_more board was l.observer next t l.steps later l.invariant.since turn).stands
+
+pub returns-in_err-push-clause-later : goal.returns-in_err-push-clause-later
+returns-in_err-push-clause-later g c = λ within.
+    let was = c.args.observer.now in
+    let board = c.args.board.now in
+    let l = c.loop-turns in
+    let t = c.in_ok-turn.turn in
+    let next = c.turn.new.self in
+    let later = c.turn.new.steps in
+    let turn = turn_is board l.observer next t l.steps later c.in_ok-turn.ensures.turned c.in_ok-turn.ensures.moved c.in_ok-turn.ensures.ahead c.in_ok-turn.ensures.cost in
+    later_than board was l.observer l.turns.items c.args.steps.now t next l.steps later l.invariant turn within
 
 pub returns-in_err-push-clause-query : goal.returns-in_err-push-clause-query
 returns-in_err-push-clause-query g c =
@@ -61,6 +75,17 @@ returns-then-still-clause-stands g c =
     let later = c.turn.new.steps in
     let turn = turn_is board l.observer next t l.steps later c.in_ok-turn.ensures.turned c.in_ok-turn.ensures.moved c.in_ok-turn.ensures.ahead c.in_ok-turn.ensures.cost in
     (since_more board was l.observer next t l.steps later l.invariant.since turn).stands
+
+pub returns-then-still-clause-later : goal.returns-then-still-clause-later
+returns-then-still-clause-later g c = λ within.
+    let was = c.args.observer.now in
+    let board = c.args.board.now in
+    let l = c.loop-turns in
+    let t = c.in_ok-turn.turn in
+    let next = c.turn.new.self in
+    let later = c.turn.new.steps in
+    let turn = turn_is board l.observer next t l.steps later c.in_ok-turn.ensures.turned c.in_ok-turn.ensures.moved c.in_ok-turn.ensures.ahead c.in_ok-turn.ensures.cost in
+    later_than board was l.observer l.turns.items c.args.steps.now t next l.steps later l.invariant turn within
 
 pub returns-then-still-clause-query : goal.returns-then-still-clause-query
 returns-then-still-clause-query g c =

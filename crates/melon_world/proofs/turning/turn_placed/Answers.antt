@@ -1,4 +1,4 @@
-use Rattle.std.proofs.Common.{◌∷◌, [], ◌∙◌, set, map, ap, sym, subst, Some}
+use Rattle.std.proofs.Common.{◌∷◌, [], ◌∙◌, set, map, ap, sym, subst, Some, inr}
 use Rattle.std.proofs.lemmas.Result.{IfOk-weaker}
 use Rattle.melon_script.specs.declared.item.Item.{Item}
 use Rattle.melon_machine.specs.State.{KeptObserver, KeptApp, kept_app, as_kept}
@@ -20,16 +20,16 @@ returns-in-Some-clause-turned g c = λ a same legal.
     (c.turn_named.ensures.turned a f.0 (ap (λ (w : KeptApp). w.store) e) legal (within app observer c.in-Some.place k at here a e legal) f.2)
 
 pub returns-in-Some-clause-left : goal.returns-in-Some-clause-left
-returns-in-Some-clause-left g c = λ a same legal.
+returns-in-Some-clause-left g c =
     let app = kept_app c.app.inside.store c.app.inside.queue c.app.inside.observers.items in
     let at = c.in-Some.ensures ∙ (λ i. place_in (c.as_str.ensures i) (map (λ (o : KeptObserver). o.name) (c.as_slice.ensures.value i))) in
-    let e = same ∙ sym c.app.view_is in
     let here = c.index_mut.ensures.value in
     let k = c.index_mut.result.now in
     let observer = c.args.observer.now in
+    subst (λ (was : KeptApp). IsAppLeft observer was (kept_app c.app.inside.store c.app.inside.queue (set c.app.inside.observers.items c.in-Some.place c.turn_named.new.observer))) c.app.view_is
+    (inr (λ a e legal.
     let f = found app observer c.in-Some.place k at here a e legal in
-    subst (λ (was : KeptApp). IsAppLeft a was (kept_app c.app.inside.store c.app.inside.queue (set c.app.inside.observers.items c.in-Some.place c.turn_named.new.observer))) c.app.view_is
-    (left_turned app observer c.in-Some.place k at here a e legal c.turn_named.new.observer (c.turn_named.ensures.stands a f.0 (ap (λ (w : KeptApp). w.store) e) legal (within app observer c.in-Some.place k at here a e legal) f.2))
+    left_turned app observer c.in-Some.place k at here a e legal c.turn_named.new.observer (c.turn_named.ensures.stands a f.0 (ap (λ (w : KeptApp). w.store) e) legal (within app observer c.in-Some.place k at here a e legal) f.2)))
 
 pub returns-in-Some-clause-cost : goal.returns-in-Some-clause-cost
 returns-in-Some-clause-cost g c =

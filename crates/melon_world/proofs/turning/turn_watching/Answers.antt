@@ -1,4 +1,4 @@
-use Rattle.std.proofs.Common.{ap, sym, ◌∙◌, length}
+use Rattle.std.proofs.Common.{ap, sym, subst, ◌∙◌, ◌≤◌, length}
 use Rattle.melon_board.specs.Stores.{SeenStore}
 use Rattle.melon_machine.specs.State.{history_of}
 use Rattle.melon_world.specs.Inside.{watch_in}
@@ -17,7 +17,8 @@ returns-in-Answer-clause-turned g c = λ a watch at same legal within is.
 
 pub returns-in-Answer-clause-stands : goal.returns-in-Answer-clause-stands
 returns-in-Answer-clause-stands g c = λ a watch at same legal within is.
-    answer_stands (history_of a) at watch within c.in-Answer.answers c.turn_answer.new.observer (is ∙ ap watch_in c.in-Answer.is) (c.turn_answer.ensures.stands a same legal) c.turn_answer.ensures.query c.turn_answer.ensures.shape
+    answer_stands (history_of a) at watch within c.in-Answer.answers c.turn_answer.new.observer (is ∙ ap watch_in c.in-Answer.is) (c.turn_answer.ensures.stands a same legal)
+    (λ w. c.turn_answer.ensures.later (subst (λ (s : SeenStore). c.in-Answer.answers.at ≤ length s.entries) same w)) c.turn_answer.ensures.query c.turn_answer.ensures.shape
 
 pub returns-in-Owner-clause-turned : goal.returns-in-Owner-clause-turned
 returns-in-Owner-clause-turned g c = λ a watch at same legal within is.
@@ -31,4 +32,5 @@ returns-in-Owner-clause-turned g c = λ a watch at same legal within is.
 
 pub returns-in-Owner-clause-stands : goal.returns-in-Owner-clause-stands
 returns-in-Owner-clause-stands g c = λ a watch at same legal within is.
-    owner_stands (history_of a) at watch within c.in-Owner.owner c.turn_owner.new.owner (is ∙ ap watch_in c.in-Owner.is) (c.turn_owner.ensures.stands a same) c.turn_owner.ensures.relation
+    owner_stands (history_of a) at watch within c.in-Owner.owner c.turn_owner.new.owner (is ∙ ap watch_in c.in-Owner.is) (c.turn_owner.ensures.stands a same)
+    (λ w. c.turn_owner.ensures.later (subst (λ (s : SeenStore). c.in-Owner.owner.at ≤ length s.entries) same w)) c.turn_owner.ensures.relation
