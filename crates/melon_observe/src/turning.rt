@@ -24,7 +24,7 @@ fn is_still(turn: &Turn) -> bool
 }
 
 /// Takes turns until the observer is still, and gives all of them; the last is the one that is still. After an error the
-/// turns that were taken stay taken, and the observer never goes back.
+/// turns that were taken stay taken, and an observer that isn't past the journal's end doesn't go back.
 pub fn turn_until_still<L: Ledger>(
     observer: &mut Observer,
     alloc: Global,
