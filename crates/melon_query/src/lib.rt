@@ -15,3 +15,4 @@ pub use cond_form::{CompareForm, CondForm, RightForm};
 pub use query::{Col, Compare, CompareOp, Cond, Join, Joined, Query, Right, SortKey};
 pub use query_fault::QueryFault;
 pub use query_form::{QueryForm, SortForm};
+pub use resolve::join_with;
