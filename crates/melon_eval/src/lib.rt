@@ -20,4 +20,5 @@ mod walk;
 pub use answer::run;
 pub use lookup::row_of;
 pub use matching::matches;
-pub use projection::{Shown, project};
+pub use melon_query::Shown;
+pub use projection::project;

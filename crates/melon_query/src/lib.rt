@@ -8,6 +8,7 @@ mod query_fault;
 mod query_form;
 mod query_reader;
 mod resolve;
+mod shown;
 mod simple;
 mod tests;
 
@@ -16,3 +17,4 @@ pub use query::{Col, Compare, CompareOp, Cond, Join, Joined, Query, Right, SortK
 pub use query_fault::QueryFault;
 pub use query_form::{QueryForm, SortForm};
 pub use resolve::join_with;
+pub use shown::Shown;
