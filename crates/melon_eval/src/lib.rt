@@ -19,4 +19,5 @@ mod walk;
 
 pub use answer::run;
 pub use matching::matches;
-pub use projection::{Shown, project};
+pub use melon_query::Shown;
+pub use projection::project;

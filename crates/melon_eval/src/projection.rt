@@ -1,67 +1,18 @@
 //! The named cells of rows.
 ghost use Rattle.std.specs.Prelude.{◌≡◌, ◌++◌, ◌<◌, IfOk, OnOk};
-ghost use Rattle.std.specs.Option.{option_copied, option_map, option_to_list};
-ghost use Rattle.melon_raw.specs.Rows.{cell, at_id};
-ghost use Rattle.melon_eval.specs.Projected.{cells_at, shown_row, projected};
+ghost use Rattle.std.specs.Option.{option_map, option_to_list};
+ghost use Rattle.melon_raw.specs.Rows.{at_id};
+ghost use Rattle.melon_query.specs.Shown.{shown_row};
+ghost use Rattle.melon_eval.specs.Projected.{projected};
 
+use melon_query::Shown;
 use melon_raw::steps::new_counter;
-use melon_raw::{Datum, Id, Raw, Steps};
-use melon_schema::{List, Twin};
+use melon_raw::{Id, Steps};
+use melon_schema::List;
 use melon_table::Table;
 use std::alloc::{AllocError, Global};
 use std::marker::Brand;
 use std::sync::ledger::{Blank, Ledger};
-
-/// The id of a row, and some of its cells.
-#[derive(Debug, Drop)]
-pub struct Shown {
-    pub id: Id,
-    pub cells: List<Datum>,
-}
-
-impl Twin for Shown {
-    fn copy(&self, alloc: Global) -> Result<Shown, AllocError> {
-        Ok(Shown {
-            id: self.id.copy(alloc)?,
-            cells: self.cells.copy(alloc)?,
-        })
-    }
-
-    fn same(&self, other: &Shown) -> bool {
-        self.id.same(&other.id) && self.cells.same(&other.cells)
-    }
-}
-
-/// A copy of a cell; a place past the end is null.
-fn cell_copy(alloc: Global, row: &Raw, column: usize) -> Result<Datum, AllocError>
-    ensures { IfOk result (λ copy. copy ≡ cell row.now column) }
-{
-    let cells = row.cells.as_slice();
-    if column < cells.len() {
-        cells[column].copy(alloc)
-    } else {
-        Ok(Datum::Null)
-    }
-}
-
-fn cells_at(alloc: Global, columns: &[usize], row: &Raw) -> Result<List<Datum>, AllocError>
-    ensures { IfOk result (λ cells. cells ≡ cells_at columns.now row.now) }
-{
-    let mut cells = List::new(alloc);
-    for column in columns {
-        cells.push(cell_copy(alloc, row, *column)?)?;
-    }
-    Ok(cells)
-}
-
-fn shown_row(alloc: Global, columns: &[usize], row: &Raw) -> Result<Shown, AllocError>
-    ensures { IfOk result (λ shown. shown ≡ shown_row columns.now row.now) }
-{
-    Ok(Shown {
-        id: row.id.copy(alloc)?,
-        cells: cells_at(alloc, columns, row)?,
-    })
-}
 
 fn add_shown<L: Ledger>(
     alloc: Global,
@@ -74,7 +25,7 @@ fn add_shown<L: Ledger>(
     ensures { OnOk result (all.new ≡ all.old ++ option_to_list (option_map (shown_row columns.now) (at_id id.now table.now.rows))) }
 {
     match table.get(id, steps) {
-        Some(row) => all.push(shown_row(alloc, columns, row)?),
+        Some(row) => all.push(Shown::of(alloc, columns, row)?),
         None => Ok(()),
     }
 }

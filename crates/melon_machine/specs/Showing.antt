@@ -9,7 +9,7 @@ use Rattle.melon_raw.specs.Rows.{Rows, column_at, table_at}
 use Rattle.melon_change.specs.History.{History}
 use Rattle.melon_query.specs.declared.query.Query.{Query}
 use Rattle.melon_views.specs.declared.emission.Shape.{Shape}
-use Rattle.melon_views.specs.declared.emission.Shown.{Shown}
+use Rattle.melon_query.specs.declared.shown.Shown.{Shown}
 use Rattle.melon_views.specs.declared.emission.Emission.{Emission}
 use Rattle.melon_views.specs.declared.emission.Emission.TheVariants as emission
 use Rattle.melon_views.specs.declared.emission.Turn.{Turn}

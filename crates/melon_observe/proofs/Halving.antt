@@ -8,7 +8,7 @@ use Rattle.std.specs.declared.cmp.Ordering.{Ordering}
 use Rattle.std.specs.declared.cmp.Ordering.TheVariants.{Less, Equal, Greater}
 use Rattle.melon_raw.specs.Order.{id_cmp, is_below}
 use Rattle.melon_table.proofs.Order.{less_from, and_left, and_right}
-use Rattle.melon_views.specs.declared.emission.Shown.{Shown}
+use Rattle.melon_query.specs.declared.shown.Shown.{Shown}
 use Rattle.melon_observe.specs.Members.{is_ascending, AllBefore, AllFrom}
 
 -- the ids ascend, place by place

@@ -16,9 +16,10 @@ use Rattle.melon_query.specs.Tuples.{rows_of}
 use Rattle.melon_query.specs.Simple.{is_simple}
 use Rattle.melon_views.specs.declared.emission.Shape.{Shape}
 use Rattle.melon_views.specs.declared.emission.Shape.TheVariants.{Ids, Columns}
-use Rattle.melon_views.specs.declared.emission.Shown.{Shown}
+use Rattle.melon_query.specs.declared.shown.Shown.{Shown}
 use Rattle.melon_views.specs.Views.{shown}
-use Rattle.melon_views.specs.Members.{columns_of, chooses, shown_row, told}
+use Rattle.melon_query.specs.Shown.{shown_row}
+use Rattle.melon_views.specs.Members.{columns_of, chooses, told}
 use Rattle.melon_views.proofs.Same.{shown_path}
 use Rattle.melon_views.proofs.Chosen.{members, bare, shown_told}
 use Rattle.melon_observe.specs.Members.{is_ascending, below, above, put_member, without_member, have_cells}

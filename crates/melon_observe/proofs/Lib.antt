@@ -4,5 +4,6 @@ pub mod Halving
 pub mod Keeping
 pub mod Patched
 pub mod Places
+pub mod Rowed
 pub mod Shows
 pub mod Turned

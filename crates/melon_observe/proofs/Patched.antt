@@ -19,8 +19,9 @@ use Rattle.melon_change.specs.History.{KeepsId, AreChanges}
 use Rattle.melon_change.proofs.After.{AreApart, apart_from_changes}
 use Rattle.melon_eval.proofs.Steps.{taken}
 use Rattle.melon_views.specs.declared.emission.Shape.{Shape}
-use Rattle.melon_views.specs.declared.emission.Shown.{Shown}
-use Rattle.melon_views.specs.Members.{columns_of, chooses, chosen, shown_row}
+use Rattle.melon_query.specs.declared.shown.Shown.{Shown}
+use Rattle.melon_query.specs.Shown.{shown_row}
+use Rattle.melon_views.specs.Members.{columns_of, chooses, chosen}
 use Rattle.melon_views.proofs.Chosen.{members}
 use Rattle.melon_observe.specs.Members.{is_ascending, below, above, put_member, without_member, have_cells}
 use Rattle.melon_observe.specs.Patches.{patch_to, patch_of, patches_of, patched, all_patched}

@@ -8,7 +8,7 @@ use Rattle.std.proofs.lemmas.List.{take-append-drop, set_split}
 use Rattle.std.proofs.lemmas.Option.{slice_get_within}
 use Rattle.melon_raw.specs.Order.{id_cmp, is_below}
 use Rattle.melon_table.proofs.Order.{below_asym, not_below_self, and_left, and_right, filter_none, filter_all}
-use Rattle.melon_views.specs.declared.emission.Shown.{Shown}
+use Rattle.melon_query.specs.declared.shown.Shown.{Shown}
 use Rattle.melon_observe.specs.Members.{is_ascending, below, above, put_member, without_member, AllBefore, AllFrom, IsPlace}
 
 -- What the members are on either side of an id.

@@ -13,7 +13,7 @@ use Rattle.melon_change.specs.declared.history.Origin.{Origin}
 use Rattle.melon_change.specs.Changes.{after_set}
 use Rattle.melon_change.specs.History.{AreChanges}
 use Rattle.melon_views.specs.declared.emission.Shape.{Shape}
-use Rattle.melon_views.specs.declared.emission.Shown.{Shown}
+use Rattle.melon_query.specs.declared.shown.Shown.{Shown}
 use Rattle.melon_views.specs.Views.{shown}
 use Rattle.melon_views.specs.Members.{columns_of, chooses, told}
 use Rattle.melon_views.specs.Laws.{Ascend}

@@ -4,7 +4,7 @@ use Rattle.std.specs.List.{list_all}
 use Rattle.std.specs.declared.cmp.Ordering.TheVariants.{Less, Greater}
 use Rattle.melon_raw.specs.Order.{id_cmp, is_below}
 use Rattle.melon_views.specs.declared.emission.Shape.{Shape}
-use Rattle.melon_views.specs.declared.emission.Shown.{Shown}
+use Rattle.melon_query.specs.declared.shown.Shown.{Shown}
 use Rattle.melon_views.specs.Members.{columns_of}
 
 abbrev pub is_ascending : List Shown → Bool

@@ -3,8 +3,9 @@ use Rattle.std.specs.Prelude.{ℕ, ◌==◌, List, [], ◌∷◌, map, filter, O
 use Rattle.melon_raw.specs.declared.raw.Raw.{Raw}
 use Rattle.melon_query.specs.declared.query.Query.{Query}
 use Rattle.melon_change.specs.declared.change.Change.{Change}
-use Rattle.melon_views.specs.declared.emission.Shown.{Shown}
-use Rattle.melon_views.specs.Members.{chosen, shown_row}
+use Rattle.melon_query.specs.declared.shown.Shown.{Shown}
+use Rattle.melon_query.specs.Shown.{shown_row}
+use Rattle.melon_views.specs.Members.{chosen}
 use Rattle.melon_observe.specs.declared.patching.Patch.{Patch}
 use Rattle.melon_observe.specs.declared.patching.Patch.TheVariants.{Put, Remove}
 use Rattle.melon_observe.specs.Members.{put_member, without_member}

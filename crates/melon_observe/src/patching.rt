@@ -5,7 +5,7 @@ ghost use Rattle.melon_observe.specs.Members.{is_ascending};
 ghost use Rattle.melon_observe.specs.Patches.{patch_of, patches_of, patched, all_patched};
 
 use crate::members::{put, remove};
-use crate::showing::{chosen, shown_row};
+use crate::showing::chosen;
 use melon_change::Change;
 use melon_query::Query;
 use melon_raw::Id;
@@ -29,7 +29,7 @@ fn patch_of(
     ensures { IfOk result (λ patch. patch ≡ patch_of query.now columns.now change.now) }
 {
     match chosen(query.conds.as_slice(), &change.after) {
-        Some(row) => Ok(Patch::Put(shown_row(alloc, columns, row)?)),
+        Some(row) => Ok(Patch::Put(Shown::of(alloc, columns, row)?)),
         None => Ok(Patch::Remove(change.id.copy(alloc)?)),
     }
 }

@@ -1,29 +1,28 @@
-ghost use Rattle.std.specs.Prelude.{◌≡◌, ◌<◌, List as Sequence, length, map, true, false, IfOk, OnErr};
+ghost use Rattle.std.specs.Prelude.{◌≡◌, ◌<◌, List as Sequence, length, true, false, IfOk, OnErr};
 ghost use Rattle.std.specs.List.{list_any};
 ghost use Rattle.std.specs.Option.{option_copied};
 ghost use Rattle.melon_schema.specs.declared.schema.TableSchema.{TableSchema};
-ghost use Rattle.melon_raw.specs.Rows.{Rows, at_id, has};
+ghost use Rattle.melon_raw.specs.Rows.{Rows, has};
 ghost use Rattle.melon_table.specs.Seen.{rows_of as all_rows};
 ghost use Rattle.melon_query.specs.Tuples.{rows_of};
 ghost use Rattle.melon_query.specs.Simple.{is_simple};
 ghost use Rattle.melon_eval.specs.Seen.{rows_in};
-ghost use Rattle.melon_views.specs.Views.{shown_at, shown};
+ghost use Rattle.melon_views.specs.Views.{shown};
 ghost use Rattle.melon_views.specs.Due.{turn_from};
 ghost use Rattle.melon_views.specs.Turns.{IsAhead};
 ghost use Rattle.melon_views.specs.Standing.{Stands, moved};
 ghost use Rattle.melon_views.specs.Laws.{NoneTouches};
 ghost use Rattle.melon_observe.specs.Journals.{history, Follows, opened};
 
-use crate::showing::cells_of;
 use melon_board::Board;
 use melon_change::Change;
-use melon_eval::run;
+use melon_eval::{project, run};
 use melon_query::Query;
+use melon_raw::Steps;
 use melon_raw::steps::new_counter;
-use melon_raw::{Id, Raw, Steps};
 use melon_schema::{List, Twin};
 use melon_table::{Table, Tables};
-use melon_views::{Emission, Shape, Shown, Turn};
+use melon_views::{Emission, Shape, Turn};
 use std::alloc::{AllocError, Global};
 use std::marker::{Brand, Model};
 use std::sync::ledger::{Blank, Ledger};
@@ -66,46 +65,6 @@ fn table_at(tables: &Tables, place: usize) -> Option<&Table>
     }
 }
 
-/// The row of an id, where there are a table and a row.
-fn row_in<'a, L: Ledger>(table: Option<&'a Table>, id: &Id, steps: &mut Steps<L>) -> Option<&'a Raw>
-    ensures { option_copied result ≡ at_id id.now (rows_in (option_copied table.entry)) }
-{
-    match table {
-        Some(table) => table.get(id, steps),
-        None => None,
-    }
-}
-
-fn shown_at<L: Ledger>(
-    alloc: Global,
-    columns: &[usize],
-    table: Option<&Table>,
-    id: Id,
-    steps: &mut Steps<L>,
-) -> Result<Shown, AllocError>
-    ensures { IfOk result (λ shown. shown ≡ shown_at columns.now (rows_in (option_copied table.entry)) id) }
-{
-    let cells = cells_of(alloc, row_in(table, &id, steps), columns)?;
-    Ok(Shown { id, cells })
-}
-
-/// Ids with the cells of these columns.
-fn project<L: Ledger>(
-    alloc: Global,
-    columns: &[usize],
-    table: Option<&Table>,
-    ids: List<Id>,
-    steps: &mut Steps<L>,
-) -> Result<List<Shown>, AllocError>
-    ensures { IfOk result (λ rows. rows ≡ map (shown_at columns.now (rows_in (option_copied table.entry))) ids) }
-{
-    let mut rows = List::from_vec(Vec::with_capacity(alloc, ids.len())?);
-    for id in ids.into_vec() {
-        rows.push(shown_at(alloc, columns, table, id, steps)?)?;
-    }
-    Ok(rows)
-}
-
 /// What is shown of the rows now.
 fn shown<L: Ledger>(
     alloc: Global,
@@ -120,8 +79,11 @@ fn shown<L: Ledger>(
     match shape {
         Shape::Ids => Ok(Emission::Ids(ids)),
         Shape::Columns(columns) => {
-            let table = table_at(tables, query.table);
-            Ok(Emission::Rows(project(alloc, columns.as_slice(), table, ids, steps)?))
+            let rows = match table_at(tables, query.table) {
+                Some(table) => project(alloc, columns, &ids, table)?,
+                None => List::new(alloc),
+            };
+            Ok(Emission::Rows(rows))
         }
     }
 }

@@ -6,14 +6,13 @@ ghost use Rattle.melon_raw.specs.Datum.{datum_eq};
 ghost use Rattle.melon_raw.specs.Rows.{cell};
 ghost use Rattle.melon_query.specs.Tuples.{alone};
 ghost use Rattle.melon_query.specs.Meaning.{all_hold};
-ghost use Rattle.melon_views.specs.Views.{cell_of};
-ghost use Rattle.melon_views.specs.Members.{columns_of, chooses, chosen, shown_row, told, show_same, member_changes, changes_member, matters};
+ghost use Rattle.melon_views.specs.Members.{columns_of, chooses, chosen, told, show_same, member_changes, changes_member, matters};
 
 use melon_change::Change;
 use melon_eval::matches;
 use melon_query::{Cond, Query};
 use melon_raw::{Datum, Id, Raw};
-use melon_schema::{List, Twin};
+use melon_schema::List;
 use melon_views::{Emission, Shape, Shown};
 use std::alloc::{AllocError, Global};
 
@@ -58,51 +57,6 @@ pub fn chosen<'a>(conds: &[Cond], row: &'a Option<Raw>) -> Option<&'a Raw>
 }
 
 // ---- what they show
-
-fn cell(alloc: Global, row: &Raw, column: usize) -> Result<Datum, AllocError>
-    ensures { IfOk result (λ value. value ≡ cell row.now column) }
-{
-    let cells = row.cells.as_slice();
-    if column < cells.len() {
-        cells[column].copy(alloc)
-    } else {
-        Ok(Datum::Null)
-    }
-}
-
-fn cell_of(alloc: Global, row: Option<&Raw>, column: usize) -> Result<Datum, AllocError>
-    ensures { IfOk result (λ value. value ≡ cell_of (option_copied row.entry) column) }
-{
-    match row {
-        Some(row) => cell(alloc, row, column),
-        None => Ok(Datum::Null),
-    }
-}
-
-/// The cells of these columns; those of no row are null.
-pub fn cells_of(
-    alloc: Global,
-    row: Option<&Raw>,
-    columns: &[usize],
-) -> Result<List<Datum>, AllocError>
-    ensures { IfOk result (λ cells. cells ≡ map (cell_of (option_copied row.entry)) columns.now) }
-{
-    let mut cells = Vec::with_capacity(alloc, columns.len())?;
-    for column in columns {
-        cells.push(cell_of(alloc, row, *column)?)?;
-    }
-    Ok(List::from_vec(cells))
-}
-
-/// A row as it is shown with these columns.
-pub fn shown_row(alloc: Global, columns: &[usize], row: &Raw) -> Result<Shown, AllocError>
-    ensures { IfOk result (λ shown. shown ≡ shown_row columns.now row.now) }
-{
-    Ok(Shown {
-        id: row.id.copy(alloc)?,
-        cells: cells_of(alloc, Some(row), columns)?,
-    })
-}
 
 fn ids_of(alloc: Global, members: Vec<Shown>) -> Result<List<Id>, AllocError>
     ensures { IfOk result (λ ids. ids ≡ map (λ m. m.id) members.items) }

@@ -12,7 +12,8 @@ ghost use Rattle.melon_change.specs.declared.history.Origin.{Origin};
 ghost use Rattle.melon_change.specs.declared.history.Entry.{Entry as SeenEntry};
 ghost use Rattle.melon_views.specs.Views.{shown};
 ghost use Rattle.melon_views.specs.Due.{turn_from, number_of};
-ghost use Rattle.melon_views.specs.Members.{chooses, shown_row};
+ghost use Rattle.melon_query.specs.Shown.{shown_row};
+ghost use Rattle.melon_views.specs.Members.{chooses};
 ghost use Rattle.melon_views.specs.Turns.{IsAhead};
 ghost use Rattle.melon_views.specs.Standing.{Stands, moved};
 ghost use Rattle.melon_views.specs.Laws.{Ascend, IsHistory};
@@ -20,7 +21,7 @@ ghost use Rattle.melon_observe.specs.Members.{is_ascending as are_ascending};
 ghost use Rattle.melon_observe.specs.Journals.{history, Follows, opened, IsFound, changes_between, reached, turn_by};
 
 use crate::patching::{patch_all, patches_of};
-use crate::showing::{chooses, columns_of, matters, shown_row, told};
+use crate::showing::{chooses, columns_of, matters, told};
 use melon_board::{Board, Entry};
 use melon_change::Change;
 use melon_query::Query;
@@ -71,7 +72,7 @@ fn add_member(
     ensures { OnOk result (members.new.items ≡ members.old.items ++ map (shown_row columns.now) (filter (chooses query.now.conds) (row.now ∷ []))) }
 {
     if chooses(query.conds.as_slice(), row) {
-        members.push(shown_row(alloc, columns, row)?)?;
+        members.push(Shown::of(alloc, columns, row)?)?;
     }
     Ok(())
 }

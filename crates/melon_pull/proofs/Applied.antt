@@ -19,11 +19,11 @@ use Rattle.melon_change.specs.Legality.{RowsFit}
 use Rattle.melon_change.proofs.After.{AreApart, after_of, at_after}
 use Rattle.melon_wire.specs.declared.changes.Changes.{Changes}
 use Rattle.melon_wire.specs.Keys.{is_before, is_in, do_ascend, ascending}
-use Rattle.melon_wire.specs.Same.{is_same}
+use Rattle.melon_raw.specs.Same.{is_same}
 use Rattle.melon_wire.specs.Standing.{Standing, standing, keys_listed, has_ids, in_no_list}
 use Rattle.melon_wire.specs.Fates.{fate, fate_of}
 use Rattle.melon_wire.proofs.KeyOrder.{split}
-use Rattle.melon_wire.proofs.Equals.{same_rows}
+use Rattle.melon_raw.proofs.Equals.{same_rows}
 use Rattle.melon_wire.proofs.Ascent.{is_in-ascending, do_ascend-ascending, all_ascending}
 use Rattle.melon_wire.proofs.KeyedLists.{AllApart, found_made, all_apart, all_unit}
 use Rattle.melon_pull.specs.declared.fault.PullFault.{PullFault}

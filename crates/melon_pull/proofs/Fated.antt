@@ -16,11 +16,11 @@ use Rattle.melon_table.proofs.ById.{id-at_id}
 use Rattle.melon_change.specs.declared.history.Origin.TheVariants.{Applied}
 use Rattle.melon_change.specs.History.{KeepsId, FitsIfAny, IsResolved, IsAllowed}
 use Rattle.melon_wire.specs.Resolution.{value_in, remote_or, resolved_cell, row_resolved, born_cell, row_born}
-use Rattle.melon_wire.specs.Same.{is_same}
+use Rattle.melon_raw.specs.Same.{is_same}
 use Rattle.melon_wire.specs.Standing.{Standing, as_created, as_updated, as_deleted, in_no_list}
 use Rattle.melon_wire.specs.Fates.{fate}
 use Rattle.melon_wire.proofs.KeyOrder.{split}
-use Rattle.melon_wire.proofs.Equals.{row_path, row_eq_refl}
+use Rattle.melon_raw.proofs.Equals.{row_path, row_eq_refl}
 use Rattle.melon_pull.proofs.Fitted.{Fits-row_born, Fits-row_resolved}
 
 -- ---- ids

@@ -13,9 +13,9 @@ use Rattle.melon_change.specs.Batch.{change_to}
 use Rattle.melon_change.specs.History.{FitsIfAny}
 use Rattle.melon_wire.specs.declared.changes.Changes.{Changes}
 use Rattle.melon_wire.specs.Keys.{key_at, first_again}
-use Rattle.melon_wire.specs.Same.{is_same}
+use Rattle.melon_raw.specs.Same.{is_same}
 use Rattle.melon_wire.proofs.KeyOrder.{split}
-use Rattle.melon_wire.proofs.Equals.{is_same_refl}
+use Rattle.melon_raw.proofs.Equals.{is_same_refl}
 use Rattle.melon_pull.specs.declared.fault.PullFault.{PullFault}
 use Rattle.melon_pull.specs.declared.listed.Listed.{Listed}
 use Rattle.melon_pull.specs.Incoming.{repeated, difference, unless_any}

@@ -13,7 +13,7 @@ use Rattle.melon_change.specs.Changes.{columns_at}
 use Rattle.melon_change.specs.Batch.{is_long, change_to}
 use Rattle.melon_wire.specs.declared.changes.Changes.{Changes}
 use Rattle.melon_wire.specs.Keys.{times, ascending}
-use Rattle.melon_wire.specs.Same.{is_same}
+use Rattle.melon_raw.specs.Same.{is_same}
 use Rattle.melon_wire.specs.Standing.{Standing, as_created, as_updated, as_deleted, in_no_list, standing, keys_listed}
 use Rattle.melon_wire.specs.Fates.{fate_of}
 use Rattle.melon_pull.specs.declared.fault.PullFault.{PullFault}

@@ -6,7 +6,7 @@ ghost use Rattle.melon_schema.specs.Faults.{Gives};
 ghost use Rattle.melon_table.specs.Seen.{rows_of, columns_of, declared_columns};
 ghost use Rattle.melon_change.specs.History.{AreChanges};
 ghost use Rattle.melon_wire.specs.Keys.{key_at};
-ghost use Rattle.melon_wire.specs.Same.{is_same};
+ghost use Rattle.melon_raw.specs.Same.{is_same};
 ghost use Rattle.melon_wire.specs.Standing.{has_ids};
 ghost use Rattle.melon_pull.specs.Incoming.{difference, incoming_of};
 ghost use Rattle.melon_pull.specs.Laws.{LeavesFates, IsOnce};
@@ -23,7 +23,6 @@ use melon_raw::{Id, Raw};
 use melon_schema::{AppSchema, List, Twin};
 use melon_table::Tables;
 use melon_wire::Changes;
-use melon_wire::equal::is_equal;
 use std::alloc::{AllocError, Global};
 
 fn copied(alloc: Global, row: Option<&Raw>) -> Result<Option<Raw>, AllocError>
@@ -39,7 +38,7 @@ fn is_unchanged(before: Option<&Raw>, after: &Raw) -> bool
     ensures { result ≡ is_same (option_copied before.entry) (Some after.now) }
 {
     match before {
-        Some(row) => is_equal(row, after),
+        Some(row) => row.is(after),
         None => false,
     }
 }

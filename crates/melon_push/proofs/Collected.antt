@@ -19,10 +19,10 @@ use Rattle.melon_wire.specs.declared.fetch.Held.{Held}
 use Rattle.melon_wire.specs.declared.fetch.Gone.{Gone}
 use Rattle.melon_wire.specs.declared.fetch.Fetch.{Fetch}
 use Rattle.melon_wire.specs.Keys.{key_at, is_before, is_in, are_apart, do_ascend}
-use Rattle.melon_wire.specs.Same.{status_eq}
+use Rattle.melon_raw.specs.Same.{status_eq}
 use Rattle.melon_wire.specs.Collected.{has_status, held_at, gone_at, rows_with, held_key, gone_key, keys_fetched, collected, IsFetch, is_within}
 use Rattle.melon_wire.proofs.KeyOrder.{split, is_key_same, is_key_refl, before_all, all_mono}
-use Rattle.melon_wire.proofs.Equals.{status_same}
+use Rattle.melon_raw.proofs.Equals.{status_same}
 use Rattle.melon_push.specs.Laws.{AllAscend, IsCopy, IsMarked, IsCollected, CollectedIsFetch, RowsStayInOrder}
 use Rattle.melon_push.proofs.Lists.{all-append, all_flat, each-append}
 

@@ -10,7 +10,7 @@ use Rattle.melon_table.specs.Dirty.{is_dirty, dirty_rows}
 use Rattle.melon_wire.specs.declared.fetch.Held.{Held}
 use Rattle.melon_wire.specs.declared.fetch.Gone.{Gone}
 use Rattle.melon_wire.specs.declared.fetch.Fetch.{Fetch}
-use Rattle.melon_wire.specs.Same.{status_eq}
+use Rattle.melon_raw.specs.Same.{status_eq}
 use Rattle.melon_wire.specs.Collected.{has_status, held_at, gone_at, fetched_count, collected}
 use Rattle.melon_wire.proofs.KeyOrder.{split}
 use Rattle.melon_push.specs.Fetching.{collected_at, with_more, collected_of}

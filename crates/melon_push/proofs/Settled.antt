@@ -23,11 +23,11 @@ use Rattle.melon_wire.specs.declared.fetch.Held.{Held}
 use Rattle.melon_wire.specs.declared.fetch.Gone.{Gone}
 use Rattle.melon_wire.specs.declared.fetch.Fetch.{Fetch}
 use Rattle.melon_wire.specs.Keys.{is_in, ascending}
-use Rattle.melon_wire.specs.Same.{row_eq}
+use Rattle.melon_raw.specs.Same.{row_eq}
 use Rattle.melon_wire.specs.Collected.{has_status, held_key, gone_key, keys_fetched, IsFetch}
 use Rattle.melon_wire.specs.Settled.{Collection, as_row, as_id, not_collected, held_of, is_gone, collects, collection, settlement, settled_by, settled_to}
 use Rattle.melon_wire.proofs.KeyOrder.{split}
-use Rattle.melon_wire.proofs.Equals.{status_same, row_same}
+use Rattle.melon_raw.proofs.Equals.{status_same, row_same}
 use Rattle.melon_wire.proofs.Ascent.{is_in-ascending, do_ascend-ascending}
 use Rattle.melon_wire.proofs.KeyedLists.{AllApart, found_made, all_apart, all_unit}
 use Rattle.melon_push.specs.Settling.{change_settled, settled_change, settled}

@@ -23,7 +23,6 @@ use melon_raw::{Raw, Status};
 use melon_schema::{List, Twin};
 use melon_table::Tables;
 use melon_wire::Fetch;
-use melon_wire::equal::is_equal;
 use std::alloc::{AllocError, Global};
 
 fn is_marked_deleted(row: &Raw) -> bool
@@ -48,7 +47,7 @@ fn settlement(
 {
     match copy {
         Some(copy) => {
-            if is_equal(row, copy) {
+            if row.is(copy) {
                 Ok(Some(Some(row.synced_copy(alloc)?)))
             } else {
                 Ok(None)

@@ -9,6 +9,7 @@ pub mod Order
 pub mod QueryForm
 pub mod Reading
 pub mod Setting
+pub mod Shown
 pub mod Simple
 pub mod Sound
 pub mod Truth

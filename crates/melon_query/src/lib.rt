@@ -8,6 +8,7 @@ mod query_fault;
 mod query_form;
 mod query_reader;
 mod resolve;
+mod shown;
 mod simple;
 mod tests;
 
@@ -15,3 +16,5 @@ pub use cond_form::{CompareForm, CondForm, RightForm};
 pub use query::{Col, Compare, CompareOp, Cond, Join, Joined, Query, Right, SortKey};
 pub use query_fault::QueryFault;
 pub use query_form::{QueryForm, SortForm};
+pub use resolve::join_with;
+pub use shown::Shown;

@@ -294,8 +294,8 @@ fn joined_by(own: &TableSchema, other: &TableSchema, association: &Association) 
     }
 }
 
-/// How a table is associated with another, which has that name.
-fn join_with(own: &TableSchema, other: &TableSchema, name: &str) -> Option<Join>
+/// How a table is associated with another, which has that name: by a key of its own, or by one of the other's.
+pub fn join_with(own: &TableSchema, other: &TableSchema, name: &str) -> Option<Join>
     ensures { result ≡ join_with own.now other.now name.now }
 {
     match association_with(name, own.associations.as_slice()) {

@@ -1,6 +1,7 @@
 pub mod Cells
 pub mod Edited
 pub mod Encoded
+pub mod Equals
 pub mod Fitted
 pub mod Fitting
 pub mod MarksBack

@@ -6,3 +6,4 @@ pub mod Fields
 pub mod Ids
 pub mod Order
 pub mod Rows
+pub mod Same

@@ -2,6 +2,7 @@ ghost use Rattle.std.specs.Prelude.{◌≡◌, ◌<◌, map, length, slice_set, 
 ghost use Rattle.melon_raw.specs.declared.datum.Datum.TheVariants.{Null};
 ghost use Rattle.melon_raw.specs.Datum.{fit};
 ghost use Rattle.melon_raw.specs.Rows.{is_visible, column_at, Fits};
+ghost use Rattle.melon_raw.specs.Same.{row_eq};
 ghost use Rattle.melon_raw.specs.Edits.{cells_from, row_created, edited_status, with_cell, row_edited, row_deleted, row_synced};
 
 use crate::{Datum, Id, Marks, sanitise};
@@ -90,6 +91,13 @@ fn cells_of(
 }
 
 impl Raw {
+    /// Whether it is the same row: in id, status, marks and cells.
+    pub fn is(&self, other: &Raw) -> bool
+        ensures { result ≡ row_eq self.now other.now }
+    {
+        self.same(other)
+    }
+
     /// Whether it isn't marked as deleted.
     pub fn is_visible(&self) -> bool
         ensures { result ≡ is_visible self.now.status }

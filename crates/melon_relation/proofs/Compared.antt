@@ -1,6 +1,6 @@
 -- What compares as the same is equal.
 use Rattle.std.proofs.Common.{◌≡◌, Bool, true, false, Option, Some, None, refl, ap, subst, if◌then◌else◌}
-use Rattle.melon_wire.proofs.Equals.{row_same, row_eq_refl, not_true}
+use Rattle.melon_raw.proofs.Equals.{row_same, row_eq_refl, not_true}
 use Rattle.melon_views.specs.declared.parent.Parent.{Parent}
 use Rattle.melon_views.specs.declared.parent.Parent.TheVariants.{Nothing, Missing, Row}
 use Rattle.melon_relation.specs.Watching.{is_same_parent, changed}

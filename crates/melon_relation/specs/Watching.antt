@@ -6,7 +6,7 @@ use Rattle.melon_raw.specs.Rows.{Rows}
 use Rattle.melon_table.specs.Seen.{rows_of}
 use Rattle.melon_change.specs.History.{History, replay, replay_to}
 use Rattle.melon_board.specs.Boards.{SeenBoard}
-use Rattle.melon_wire.specs.Same.{row_eq}
+use Rattle.melon_raw.specs.Same.{row_eq}
 use Rattle.melon_views.specs.declared.parent.Parent.{Parent}
 use Rattle.melon_views.specs.declared.parent.Parent.TheVariants.{Nothing, Missing, Row}
 use Rattle.melon_relation.specs.declared.relation.Relation.{Relation}

@@ -16,7 +16,6 @@ use melon_raw::{Datum, Raw, Steps};
 use melon_schema::Twin;
 use melon_table::Tables;
 use melon_views::Parent;
-use melon_wire::equal::is_equal;
 use std::alloc::{AllocError, Global};
 use std::sync::ledger::Ledger;
 
@@ -154,7 +153,7 @@ impl Target<'_> {
             (Target::Missing, Parent::Row(_)) => false,
             (Target::Row(_), Parent::Nothing) => false,
             (Target::Row(_), Parent::Missing) => false,
-            (Target::Row(row), Parent::Row(other)) => is_equal(row, other),
+            (Target::Row(row), Parent::Row(other)) => row.is(other),
         }
     }
 

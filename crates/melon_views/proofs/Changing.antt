@@ -20,11 +20,12 @@ use Rattle.melon_change.specs.Changes.{key, key_of, change_of, after_set}
 use Rattle.melon_change.specs.History.{KeepsId, IsChange, AreChanges, IsEntry}
 use Rattle.melon_change.proofs.Same.{is_key_same, is_key_refl}
 use Rattle.melon_change.proofs.After.{after_of, at_after, apart_from_changes, change_found}
-use Rattle.melon_views.specs.declared.emission.Shown.{Shown}
+use Rattle.melon_query.specs.declared.shown.Shown.{Shown}
 use Rattle.melon_views.specs.declared.emission.Shape.{Shape}
 use Rattle.melon_views.specs.Views.{shown}
 use Rattle.melon_views.specs.Due.{is_same}
-use Rattle.melon_views.specs.Members.{columns_of, chooses, chosen, shown_row, told, show_same, member_changes, changes_member, matters}
+use Rattle.melon_query.specs.Shown.{shown_row}
+use Rattle.melon_views.specs.Members.{columns_of, chooses, chosen, told, show_same, member_changes, changes_member, matters}
 use Rattle.melon_views.specs.Laws.{Ascend, EntriesChangeViews}
 use Rattle.melon_views.proofs.Same.{datum_eq-Decides, shown_path, is_same-Decides}
 use Rattle.melon_views.proofs.Chosen.{members, shown_told, told_same}

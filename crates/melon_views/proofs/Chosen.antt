@@ -20,12 +20,13 @@ use Rattle.melon_query.specs.Meaning.{all_hold, ons, ons_step, ons_of_each}
 use Rattle.melon_query.specs.Order.{placed, in_order, comes_before}
 use Rattle.melon_query.specs.Fresh.{all_ons, with_tables, joined_tables, some_members, is_chosen, at_most, fresh}
 use Rattle.melon_query.specs.Simple.{one_true, has_on, has_on_step, one_has_on, is_simple}
-use Rattle.melon_views.specs.declared.emission.Shown.{Shown}
+use Rattle.melon_query.specs.declared.shown.Shown.{Shown}
 use Rattle.melon_views.specs.declared.emission.Shape.{Shape}
 use Rattle.melon_views.specs.declared.emission.Shape.TheVariants.{Ids, Columns}
 use Rattle.melon_views.specs.declared.emission.Emission.TheVariants as emission
 use Rattle.melon_views.specs.Views.{cell_of, shown_at, shown_rows, shown}
-use Rattle.melon_views.specs.Members.{columns_of, chooses, shown_row, told}
+use Rattle.melon_query.specs.Shown.{shown_row}
+use Rattle.melon_views.specs.Members.{columns_of, chooses, told}
 
 -- ---- a query without `on`
 

@@ -6,8 +6,9 @@ use Rattle.melon_raw.specs.Order.{is_below}
 use Rattle.melon_raw.specs.Rows.{is_ascending, at_id}
 use Rattle.melon_table.proofs.Order.{split, bytes_same, same_bytes, above_apart, below_trans, below_other, and_left, and_right, both, all_mono}
 use Rattle.melon_query.specs.declared.query.Cond.{Cond}
-use Rattle.melon_views.specs.declared.emission.Shown.{Shown}
-use Rattle.melon_views.specs.Members.{chooses, chosen, shown_row}
+use Rattle.melon_query.specs.declared.shown.Shown.{Shown}
+use Rattle.melon_query.specs.Shown.{shown_row}
+use Rattle.melon_views.specs.Members.{chooses, chosen}
 
 pub none_some : {X : Type 0} (x : X) → None ≡ Some x → ⊥
 none_some x e = cc

@@ -5,7 +5,7 @@ use Rattle.std.proofs.lemmas.Slice.Eq.{slice_eq-Decides, bytes_eq-Decides}
 use Rattle.melon_raw.specs.declared.datum.Datum.{Datum}
 use Rattle.melon_raw.specs.declared.datum.Datum.TheVariants.{Null, Words, Whole, Truth}
 use Rattle.melon_raw.specs.Datum.{datum_eq, truth_eq}
-use Rattle.melon_views.specs.declared.emission.Shown.{Shown}
+use Rattle.melon_query.specs.declared.shown.Shown.{Shown}
 use Rattle.melon_views.specs.declared.emission.Emission.{Emission}
 use Rattle.melon_views.specs.declared.emission.Emission.TheVariants.{Ids, Rows}
 use Rattle.melon_views.specs.Due.{is_same_row, is_same}

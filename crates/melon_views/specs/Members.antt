@@ -12,7 +12,7 @@ use Rattle.melon_query.specs.Simple.{tables_of}
 use Rattle.melon_change.specs.declared.change.Change.{Change}
 use Rattle.melon_views.specs.declared.emission.Shape.{Shape}
 use Rattle.melon_views.specs.declared.emission.Shape.TheVariants.{Ids, Columns}
-use Rattle.melon_views.specs.declared.emission.Shown.{Shown}
+use Rattle.melon_query.specs.declared.shown.Shown.{Shown}
 use Rattle.melon_views.specs.declared.emission.Emission.{Emission}
 use Rattle.melon_views.specs.declared.emission.Emission.TheVariants as emission
 
@@ -29,10 +29,6 @@ chooses conds row = is_visible row.status && all_hold conds (alone row)
 abbrev pub chosen : List Cond → Option Raw → Option Raw
 chosen conds None = None
 chosen conds (Some row) = if chooses conds row then Some row else None
-
--- a row as it is shown
-abbrev pub shown_row : List ℕ → Raw → Shown
-shown_row columns row = record { id = row.id; cells = map (cell row) columns }
 
 -- the emission that these members are
 abbrev pub told : Shape → List Shown → Emission

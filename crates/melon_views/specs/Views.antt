@@ -10,7 +10,7 @@ use Rattle.melon_query.specs.Fresh.{fresh}
 use Rattle.melon_change.specs.History.{History, replay_to}
 use Rattle.melon_views.specs.declared.emission.Shape.{Shape}
 use Rattle.melon_views.specs.declared.emission.Shape.TheVariants as shape
-use Rattle.melon_views.specs.declared.emission.Shown.{Shown}
+use Rattle.melon_query.specs.declared.shown.Shown.{Shown}
 use Rattle.melon_views.specs.declared.emission.Emission.{Emission}
 use Rattle.melon_views.specs.declared.emission.Emission.TheVariants as emission
 

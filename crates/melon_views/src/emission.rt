@@ -1,4 +1,5 @@
-use melon_raw::{Datum, Id};
+use melon_query::Shown;
+use melon_raw::Id;
 use melon_schema::{List, Twin};
 use std::alloc::{AllocError, Global};
 
@@ -7,13 +8,6 @@ use std::alloc::{AllocError, Global};
 pub enum Shape {
     Ids,
     Columns(List<usize>),
-}
-
-/// A row as it is shown: its id, and a cell for each column that the shape names.
-#[derive(Debug, Drop)]
-pub struct Shown {
-    pub id: Id,
-    pub cells: List<Datum>,
 }
 
 /// What is shown of an answer, in the answer's order.
@@ -28,19 +22,6 @@ pub enum Emission {
 pub enum Turn {
     Emit(u64, Emission),
     Still(u64),
-}
-
-impl Twin for Shown {
-    fn copy(&self, alloc: Global) -> Result<Shown, AllocError> {
-        Ok(Shown {
-            id: self.id.copy(alloc)?,
-            cells: self.cells.copy(alloc)?,
-        })
-    }
-
-    fn same(&self, other: &Shown) -> bool {
-        self.id.same(&other.id) && self.cells.same(&other.cells)
-    }
 }
 
 impl Twin for Emission {

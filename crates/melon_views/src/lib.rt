@@ -6,5 +6,6 @@ pub mod emission;
 pub mod laws;
 pub mod parent;
 
-pub use emission::{Emission, Shape, Shown, Turn};
+pub use emission::{Emission, Shape, Turn};
+pub use melon_query::Shown;
 pub use parent::Parent;

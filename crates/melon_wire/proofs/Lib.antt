@@ -3,5 +3,4 @@ pub mod WireBack
 pub mod KeyOrder
 pub mod Ascent
 pub mod KeyedLists
-pub mod Equals
 pub mod HaveIds

@@ -9,7 +9,7 @@ use Rattle.melon_wire.specs.declared.fetch.Held.{Held}
 use Rattle.melon_wire.specs.declared.fetch.Gone.{Gone}
 use Rattle.melon_wire.specs.declared.fetch.Fetch.{Fetch}
 use Rattle.melon_wire.specs.Keys.{key_at, are_apart, do_ascend}
-use Rattle.melon_wire.specs.Same.{status_eq}
+use Rattle.melon_raw.specs.Same.{status_eq}
 
 -- ---- what is collected
 

@@ -6,7 +6,6 @@ pub mod Keys
 pub mod Resolution
 pub mod Standing
 pub mod Fates
-pub mod Same
 pub mod Collected
 pub mod Sent
 pub mod Settled

@@ -8,7 +8,7 @@ use Rattle.melon_raw.specs.Rows.{Key, is_key}
 use Rattle.melon_wire.specs.declared.fetch.Held.{Held}
 use Rattle.melon_wire.specs.declared.fetch.Gone.{Gone}
 use Rattle.melon_wire.specs.declared.fetch.Fetch.{Fetch}
-use Rattle.melon_wire.specs.Same.{row_eq}
+use Rattle.melon_raw.specs.Same.{row_eq}
 use Rattle.melon_wire.specs.Collected.{has_status, held_key, gone_key}
 
 -- ---- how a record was collected

@@ -2,7 +2,6 @@
 #![tactic(auto)]
 
 pub mod changes;
-pub mod equal;
 pub mod fetch;
 pub mod keyed;
 pub mod pull;

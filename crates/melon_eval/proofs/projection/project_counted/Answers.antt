@@ -1,7 +1,7 @@
 use Rattle.std.proofs.Common.{List, ℕ}
 use Rattle.std.specs.Option.{option_map}
 use Rattle.melon_raw.specs.Rows.{at_id}
-use Rattle.melon_eval.specs.Projected.{shown_row}
+use Rattle.melon_query.specs.Shown.{shown_row}
 use Rattle.melon_eval.proofs.Projecting.{gathered_more}
 use Rattle.melon_eval.proofs.projection.project_counted.Goals as goal
 

@@ -2,7 +2,7 @@ use Rattle.std.proofs.Common.{◌≡◌, take}
 use Rattle.std.specs.List.{filter_map}
 use Rattle.std.specs.Option.{option_map}
 use Rattle.melon_raw.specs.Rows.{at_id}
-use Rattle.melon_eval.specs.Projected.{shown_row}
+use Rattle.melon_query.specs.Shown.{shown_row}
 use Rattle.melon_eval.proofs.projection.project_counted.Given as goal
 
 abbrev pub invariant-loop-id : goal.invariant-loop-id

@@ -1,5 +1,5 @@
 use Rattle.std.proofs.Common.{List, Ok, Err, ◌∙◌, subst}
-use Rattle.melon_views.specs.declared.emission.Shown.{Shown}
+use Rattle.melon_query.specs.declared.shown.Shown.{Shown}
 use Rattle.melon_observe.specs.Members.{IsPlace}
 use Rattle.melon_observe.proofs.Places.{removed, unmoved}
 use Rattle.melon_observe.proofs.members.remove.Goals as goal

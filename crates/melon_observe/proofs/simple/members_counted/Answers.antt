@@ -1,6 +1,7 @@
 use Rattle.std.proofs.Common.{List, [], ◌∷◌, ◌++◌, map, filter, ap, ◌∙◌}
-use Rattle.melon_views.specs.declared.emission.Shown.{Shown}
-use Rattle.melon_views.specs.Members.{chooses, shown_row}
+use Rattle.melon_query.specs.declared.shown.Shown.{Shown}
+use Rattle.melon_query.specs.Shown.{shown_row}
+use Rattle.melon_views.specs.Members.{chooses}
 use Rattle.melon_observe.proofs.Keeping.{members_more}
 use Rattle.melon_observe.proofs.simple.members_counted.Goals as goal
 

@@ -1,5 +1,6 @@
 use Rattle.std.proofs.Common.{◌≡◌, map, filter, take}
-use Rattle.melon_views.specs.Members.{chooses, shown_row}
+use Rattle.melon_query.specs.Shown.{shown_row}
+use Rattle.melon_views.specs.Members.{chooses}
 use Rattle.melon_observe.proofs.simple.members_counted.Given as goal
 
 abbrev pub invariant-loop-i : goal.invariant-loop-i

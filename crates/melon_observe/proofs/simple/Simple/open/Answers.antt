@@ -5,7 +5,8 @@ use Rattle.melon_table.specs.Seen.{SeenTable}
 use Rattle.melon_table.specs.Seen as tables
 use Rattle.melon_query.specs.Tuples.{rows_of}
 use Rattle.melon_views.specs.Views.{shown}
-use Rattle.melon_views.specs.Members.{columns_of, chooses, shown_row, told}
+use Rattle.melon_query.specs.Shown.{shown_row}
+use Rattle.melon_views.specs.Members.{columns_of, chooses, told}
 use Rattle.melon_views.proofs.Chosen.{members, shown_told}
 use Rattle.melon_observe.specs.Members.{is_ascending, have_cells}
 use Rattle.melon_observe.proofs.Shows.{read_ascending, read_cells}

@@ -1,5 +1,5 @@
 use Rattle.std.proofs.Common.{◌≡◌, ℕ, List, true, ap, ◌∙◌, sym, subst}
-use Rattle.melon_views.specs.declared.emission.Shown.{Shown}
+use Rattle.melon_query.specs.declared.shown.Shown.{Shown}
 use Rattle.melon_views.specs.Views.{shown}
 use Rattle.melon_views.specs.Members.{columns_of, told}
 use Rattle.melon_views.specs.Standing.{Observed}

@@ -3,21 +3,21 @@ use Rattle.std.proofs.Common.{◌≡◌, ℕ, List, [], ◌∷◌, Bool, true, f
 use Rattle.std.specs.Cmp.Lexicographic.{pointwise}
 use Rattle.std.proofs.lemmas.Bool.{and_parts, and_from, both_ways}
 use Rattle.std.proofs.lemmas.Bool.Decides.{Decides-eqb, Decides-int_eq, same_from_decides}
+use Rattle.std.proofs.lemmas.Slice.Eq.{bytes_eq-Decides}
 use Rattle.melon_raw.specs.declared.datum.Datum.{Datum}
 use Rattle.melon_raw.specs.declared.datum.Datum.TheVariants.{Null, Words, Whole, Truth}
 use Rattle.melon_raw.specs.declared.raw.Status.{Status}
 use Rattle.melon_raw.specs.declared.raw.Status.TheVariants.{Created, Updated, Deleted, Synced}
 use Rattle.melon_raw.specs.declared.raw.Raw.{Raw}
 use Rattle.melon_raw.specs.Datum.{datum_eq}
-use Rattle.melon_wire.specs.Same.{status_eq, row_eq, is_same}
-use Rattle.melon_wire.proofs.KeyOrder.{bytes_same, same_bytes}
+use Rattle.melon_raw.specs.Same.{status_eq, row_eq, is_same}
 
 pub not_true : {P : Type 0} → false ≡ true → P
 not_true e = absurd (both_ways false refl e)
 
 datum_same : (a b : Datum) → datum_eq a b ≡ true → a ≡ b
 datum_same Null Null h = refl
-datum_same (Words a) (Words b) h = ap Words (same_bytes a b h)
+datum_same (Words a) (Words b) h = ap Words ((bytes_eq-Decides a b).0 h)
 datum_same (Whole a) (Whole b) h = ap Whole ((Decides-int_eq a b).0 h)
 datum_same (Truth true) (Truth true) h = refl
 datum_same (Truth true) (Truth false) h = not_true h
@@ -27,7 +27,7 @@ datum_same a b h = not_true h
 
 datum_eq_refl : (d : Datum) → datum_eq d d ≡ true
 datum_eq_refl Null = refl
-datum_eq_refl (Words t) = bytes_same t t refl
+datum_eq_refl (Words t) = (bytes_eq-Decides t t).1 refl
 datum_eq_refl (Whole z) = (Decides-int_eq z z).1 refl
 datum_eq_refl (Truth true) = refl
 datum_eq_refl (Truth false) = refl
@@ -72,10 +72,10 @@ row_same a b h =
     let p : (_ ≡ true) × (_ ≡ true) = and_parts _ (status_eq a.status b.status && (same_marks a b && same_cells a b)) h in
     let q : (_ ≡ true) × (_ ≡ true) = and_parts (status_eq a.status b.status) (same_marks a b && same_cells a b) p.1 in
     let r : (_ ≡ true) × (_ ≡ true) = and_parts (same_marks a b) (same_cells a b) q.1 in
-    row_path a b (same_bytes _ _ p.0) (status_same _ _ q.0) (lists_same (λ m n. m == n) (λ m n e. (Decides-eqb m n).0 e) _ _ r.0) (lists_same datum_eq datum_same _ _ r.1)
+    row_path a b ((bytes_eq-Decides a.id b.id).0 p.0) (status_same _ _ q.0) (lists_same (λ m n. m == n) (λ m n e. (Decides-eqb m n).0 e) _ _ r.0) (lists_same datum_eq datum_same _ _ r.1)
 
 pub row_eq_refl : (r : Raw) → row_eq r r ≡ true
-row_eq_refl r = and_from (bytes_eq r.id r.id) (status_eq r.status r.status && (same_marks r r && same_cells r r)) (bytes_same r.id r.id refl)
+row_eq_refl r = and_from (bytes_eq r.id r.id) (status_eq r.status r.status && (same_marks r r && same_cells r r)) ((bytes_eq-Decides r.id r.id).1 refl)
     (and_from (status_eq r.status r.status) (same_marks r r && same_cells r r) (status_eq_refl r.status)
     (and_from (same_marks r r) (same_cells r r) (lists_refl (λ m n. m == n) (λ m. (Decides-eqb m m).1 refl) r.marks) (lists_refl datum_eq datum_eq_refl r.cells)))
 
