@@ -4,8 +4,6 @@
 #[cfg(test)]
 mod conditions;
 #[cfg(test)]
-mod observers;
-#[cfg(test)]
 mod queries;
 #[cfg(test)]
 mod runs;
