@@ -1,9 +1,9 @@
 pub mod Between
+pub mod Gap
 pub mod Going
-pub mod Halving
 pub mod Keeping
 pub mod Patched
-pub mod Places
 pub mod Rowed
 pub mod Shows
+pub mod Sorted
 pub mod Turned

@@ -1,5 +1,5 @@
 -- Members are patched as the rows change.
-use Rattle.std.proofs.Common.{◌≡◌, ℕ, ◌+◌, ◌<◌, ◌≤◌, List, [], ◌∷◌, ◌++◌, length, get_or, set, take, map, filter, Bool, true, false, cond, eqb, Option, Some, None, refl, sym, ap, ◌∙◌, subst, arith}
+use Rattle.std.proofs.Common.{◌≡◌, ℕ, ◌+◌, ◌<◌, ◌≤◌, List, [], ◌∷◌, ◌++◌, length, get_or, set, take, map, filter, Bool, true, false, cond, eqb, Option, Some, None, refl, sym, ap, ◌∙◌, subst}
 use Rattle.std.specs.List.{list_all}
 use Rattle.std.proofs.lemmas.Bool.{eq-eqb, eqb-true, eqb-false}
 use Rattle.std.proofs.lemmas.List.{map-append, length-map, length-set, get_or-set_same, get_or-set_other}
@@ -11,7 +11,6 @@ use Rattle.melon_raw.specs.Rows.{Rows, cell}
 use Rattle.melon_raw.specs.Rows as rows
 use Rattle.melon_table.proofs.Order.{both, all_filter, all_append, and_left, and_right}
 use Rattle.melon_query.specs.declared.query.Query.{Query}
-use Rattle.melon_query.specs.Tuples.{rows_of}
 use Rattle.melon_change.specs.declared.change.Change.{Change}
 use Rattle.melon_change.specs.declared.history.Origin.{Origin}
 use Rattle.melon_change.specs.Changes.{with_after, after_change, after_set}
@@ -23,7 +22,8 @@ use Rattle.melon_query.specs.declared.shown.Shown.{Shown}
 use Rattle.melon_query.specs.Shown.{shown_row}
 use Rattle.melon_views.specs.Members.{columns_of, chooses, chosen}
 use Rattle.melon_views.proofs.Chosen.{members}
-use Rattle.melon_observe.specs.Members.{is_ascending, below, above, put_member, without_member, have_cells}
+use Rattle.melon_observe.specs.Members.{is_ascending, below, above, without_member, have_cells}
+use Rattle.melon_observe.specs.Gap.{whole}
 use Rattle.melon_observe.specs.Patches.{patch_to, patch_of, patches_of, patched, all_patched}
 use Rattle.melon_observe.specs.declared.patching.Patch.{Patch}
 use Rattle.melon_observe.specs.declared.patching.Patch.TheVariants.{Put, Remove}
@@ -51,7 +51,7 @@ swap_step p r x xs true false e f ih = ih ∙ sym (ap (λ t. cond t (x ∷ filte
 swap_step p r x xs false true e f ih = ap (λ t. cond t (x ∷ filter p (filter r xs)) (filter p (filter r xs))) e ∙ ih
 swap_step p r x xs false false e f ih = ih
 
-filter_swap : {X : Type 0} (p r : X → Bool) (xs : List X) → filter p (filter r xs) ≡ filter r (filter p xs)
+pub filter_swap : {X : Type 0} (p r : X → Bool) (xs : List X) → filter p (filter r xs) ≡ filter r (filter p xs)
 filter_swap p r [] = refl
 filter_swap p r (x ∷ xs) = swap_step p r x xs (p x) (r x) refl refl (filter_swap p r xs)
 
@@ -170,7 +170,8 @@ cells_after q s set ms h = cells_all_patched s (patches_of q (columns_of s) set)
 
 -- ---- how far members are patched
 
-pub record Patching (start : List Shown) (all : List Patch) (ms : List Shown) (left : List Patch) (len capacity : ℕ) : Type 0 where
-  pub done : all_patched ms left ≡ all_patched start all
-  pub ascending : is_ascending ms ≡ true
+pub record Patching (start : List Shown) (all : List Patch) (before behind : List Shown) (left : List Patch) (len capacity capacity_behind : ℕ) : Type 0 where
+  pub done : all_patched (whole before behind) left ≡ all_patched start all
+  pub ascending : is_ascending (whole before behind) ≡ true
   pub room : len + length left ≤ capacity
+  pub room_behind : len + length left ≤ capacity_behind

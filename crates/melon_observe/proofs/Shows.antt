@@ -1,7 +1,6 @@
 -- What patched members show.
 use Rattle.std.proofs.Common.{◌≡◌, ℕ, List, filter, true, sym, ap, ◌∙◌}
 use Rattle.melon_schema.specs.declared.schema.TableSchema.{TableSchema}
-use Rattle.melon_raw.specs.declared.raw.Raw.{Raw}
 use Rattle.melon_raw.specs.Rows.{Rows}
 use Rattle.melon_raw.specs.Rows as rows
 use Rattle.melon_table.proofs.ById.{is_ascending-filter}

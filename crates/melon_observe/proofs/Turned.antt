@@ -1,11 +1,11 @@
 -- The turns of observers that stand on a history.
-use Rattle.std.proofs.Common.{◌≡◌, ◌≢◌, ℕ, suc, ◌+◌, ◌-◌, ◌<◌, ◌≤◌, List, [], ◌∷◌, length, take, drop, Bool, true, false, not, cond, Option, Some, None, refl, sym, ap, ◌∙◌, subst, arith, add-one}
+use Rattle.std.proofs.Common.{◌≡◌, ℕ, suc, ◌+◌, ◌-◌, ◌<◌, List, length, Bool, true, false, cond, sym, ap, ◌∙◌, arith, add-one}
 use Rattle.std.proofs.lemmas.Bool.{not_from_true, not_from_false, false_from_ne_true}
 use Rattle.std.proofs.lemmas.List.{take_all}
 use Rattle.std.proofs.lemmas.Option.{slice_get_within}
 use Rattle.melon_schema.specs.declared.schema.TableSchema.{TableSchema}
 use Rattle.melon_raw.specs.Rows.{Rows}
-use Rattle.melon_table.specs.Seen.{SeenTable, rows_of}
+use Rattle.melon_table.specs.Seen.{rows_of}
 use Rattle.melon_query.specs.declared.query.Query.{Query}
 use Rattle.melon_query.specs.Simple.{is_simple}
 use Rattle.melon_change.specs.declared.history.Entry.{Entry}
@@ -15,10 +15,9 @@ use Rattle.melon_change.specs.History.{History, AreChanges, replay, replay_to}
 use Rattle.melon_board.specs.Boards.{SeenBoard}
 use Rattle.melon_views.specs.declared.emission.Shape.{Shape}
 use Rattle.melon_views.specs.declared.emission.Emission.{Emission}
-use Rattle.melon_views.specs.declared.emission.Turn.{Turn}
 use Rattle.melon_views.specs.declared.emission.Turn.TheVariants.{Emit, Still}
 use Rattle.melon_views.specs.Views.{shown, view}
-use Rattle.melon_views.specs.Due.{is_same, differs, due, turn_to, first_turn, last_turn, turn_from}
+use Rattle.melon_views.specs.Due.{is_same, differs, turn_to, first_turn, last_turn, turn_from}
 use Rattle.melon_views.specs.Turns.{IsAhead}
 use Rattle.melon_views.specs.Standing.{Observed, Stands}
 use Rattle.melon_views.specs.Laws.{Ascend, IsHistory, NoneMatters, NoneTouches}

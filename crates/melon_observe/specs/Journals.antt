@@ -52,10 +52,10 @@ IsFound q s entries p (Some found) = IsFirst q s entries p found.0 found.1.now
 abbrev pub changes_between : ℕ → ℕ → List Entry → ℕ
 changes_between p n entries = sum_by (λ e. length e.set) (take (n - p) (drop p entries))
 
--- the number up to which was looked
-abbrev pub reached : List Entry → Option (ℕ × Bor Entry) → ℕ
-reached entries None = length entries
-reached entries (Some found) = found.0
+-- the number up to which was looked, of entries that end there
+abbrev pub reached : ℕ → Option (ℕ × Bor Entry) → ℕ
+reached end None = end
+reached end (Some found) = found.0
 
 -- ---- patches
 

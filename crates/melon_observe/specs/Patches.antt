@@ -5,6 +5,8 @@ use Rattle.melon_query.specs.declared.query.Query.{Query}
 use Rattle.melon_change.specs.declared.change.Change.{Change}
 use Rattle.melon_query.specs.declared.shown.Shown.{Shown}
 use Rattle.melon_query.specs.Shown.{shown_row}
+use Rattle.melon_query.specs.Order.{in_order}
+use Rattle.melon_raw.specs.Order.{is_below}
 use Rattle.melon_views.specs.Members.{chosen}
 use Rattle.melon_observe.specs.declared.patching.Patch.{Patch}
 use Rattle.melon_observe.specs.declared.patching.Patch.TheVariants.{Put, Remove}
@@ -21,6 +23,15 @@ patch_of q columns c = patch_to columns c.id (chosen q.conds c.after)
 -- the patches of the changes in the query's table
 abbrev pub patches_of : Query → List ℕ → List Change → List Patch
 patches_of q columns set = map (patch_of q columns) (filter (λ c. c.table == q.table) set)
+
+-- the id of the member that a patch puts or removes
+abbrev pub id_of : Patch → List ℕ
+id_of (Put m) = m.id
+id_of (Remove id) = id
+
+-- patches in the order of their ids
+abbrev pub by_id : List Patch → List Patch
+by_id ps = in_order (λ p q. is_below (id_of p) (id_of q)) ps
 
 abbrev pub patched : Patch → List Shown → List Shown
 patched (Put m) ms = put_member m ms

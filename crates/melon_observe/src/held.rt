@@ -12,6 +12,7 @@ ghost use Rattle.melon_observe.specs.Journals.{history, Follows, opened, changes
 ghost use Rattle.melon_observe.specs.Held.{observed_by};
 
 use crate::Simple;
+use crate::finding::first_on;
 use crate::reloading::Reloading;
 use melon_board::Board;
 use melon_query::Query;
@@ -85,7 +86,10 @@ pub fn turn_held<L: Ledger>(
     ensures cost { is_simple (observed_by held.old).query ≡ true → IfOk result (λ turn. steps.new ≤ steps.old + changes_between (observed_by held.old).at (number_of turn) board.now.entries) }
 {
     match held {
-        Held::Simple(simple) => simple.turn(alloc, board, steps),
+        Held::Simple(simple) => {
+            let found = first_on(simple.query(), simple.shape(), simple.at(), board, steps);
+            simple.go_on(alloc, found, board.len() as u64)
+        }
         Held::Reloading(reloading) => reloading.turn(alloc, board, steps),
     }
 }

@@ -2,6 +2,7 @@
 //! again.
 #![tactic(auto)]
 
+mod finding;
 mod held;
 mod members;
 pub mod observer;
@@ -9,6 +10,8 @@ mod patching;
 pub mod reloading;
 mod showing;
 pub mod simple;
+#[cfg(test)]
+mod tests;
 pub mod turning;
 
 pub use melon_views::{Emission, Shape, Shown, Turn};

@@ -18,10 +18,11 @@ ghost use Rattle.melon_views.specs.Turns.{IsAhead};
 ghost use Rattle.melon_views.specs.Standing.{Stands, moved};
 ghost use Rattle.melon_views.specs.Laws.{Ascend, IsHistory};
 ghost use Rattle.melon_observe.specs.Members.{is_ascending as are_ascending};
-ghost use Rattle.melon_observe.specs.Journals.{history, Follows, opened, IsFound, changes_between, reached, turn_by};
+ghost use Rattle.melon_observe.specs.Journals.{history, opened, IsFound, reached, turn_by};
 
-use crate::patching::{patch_all, patches_of};
-use crate::showing::{chooses, columns_of, matters, told};
+use crate::finding::first_in;
+use crate::patching::{copy_patches, patch_all, patches_of};
+use crate::showing::{chooses, columns_of, told};
 use melon_board::{Board, Entry};
 use melon_change::Change;
 use melon_query::Query;
@@ -178,38 +179,6 @@ impl Simple {
         self.at
     }
 
-    /// The first entry of the journal after the position that matters, and its number.
-    fn first_on<'a, L: Ledger>(
-        &self,
-        board: &'a Board,
-        steps: &mut Steps<L>,
-    ) -> Option<(u64, &'a Entry)>
-        ensures found { IsFound self.now.query self.now.shape board.now.entries self.now.at result }
-        ensures cost { steps.new ≤ steps.old + changes_between self.now.at (reached board.now.entries result) board.now.entries }
-    {
-        for place in self.at as usize..board.len() {
-            let entry = board.entry(place, steps);
-            if matters(&self.query, &self.shape, entry.set.as_slice()) {
-                return Some((place as u64 + 1, entry));
-            }
-        }
-        None
-    }
-
-    /// The first of these entries that matters, and its number among them.
-    fn first_in<'a>(&self, tail: &'a [Entry]) -> Option<(u64, &'a Entry)>
-        ensures found { IsFound self.now.query self.now.shape tail.now 0 result }
-        ensures within { IfSome result (λ found. found.0 ≤ length tail.now) }
-    {
-        for place in 0..tail.len() {
-            let entry = &tail[place];
-            if matters(&self.query, &self.shape, entry.set.as_slice()) {
-                return Some((place as u64 + 1, entry));
-            }
-        }
-        None
-    }
-
     /// Takes in the changes of an entry that matters, and gives what is shown after it. All memory is taken before the
     /// members are patched.
     fn take_in(
@@ -222,40 +191,43 @@ impl Simple {
             → IfOk result (λ emission. emission ≡ shown self.old.query self.old.shape (after_set rows changes.now)) }
         ensures moved { IfOk result (λ emission. self.new ≡ moved (Turn.Emit number emission) self.old) }
         ensures err { OnErr result (self.new ≡ self.old) }
+        ensures simple { is_simple self.old.query ≡ true }
     {
         let columns = columns_of(&self.shape);
         let patches = patches_of(alloc, &self.query, columns, changes)?;
-        let twins = patches_of(alloc, &self.query, columns, changes)?;
-        let mut shown = copies_of(alloc, self.members.as_slice(), twins.len())?;
+        let twins = copy_patches(alloc, patches.as_slice())?;
+        let mut shown = copies_of(alloc, self.members.as_slice(), patches.len())?;
+        let mut behind = Vec::new(alloc);
+        behind.reserve(shown.capacity())?;
         self.members.reserve(patches.len())?;
-        patch_all(&mut shown, twins);
+        patch_all(&mut shown, &mut behind, twins);
         let emission = told(alloc, &self.shape, shown)?;
-        patch_all(&mut self.members, patches);
+        patch_all(&mut self.members, &mut behind, patches);
         self.at = number;
         Ok(emission)
     }
 
-    /// Goes on to the first entry of the journal that matters, and gives the emission after it, or to the journal's end.
-    pub fn turn<L: Ledger>(
+    /// Goes on to the first later entry that matters, where one was found with its number, and gives the emission after
+    /// it, or to the end. It is given no table.
+    pub(crate) fn go_on(
         &mut self,
         alloc: Global,
-        board: &Board,
-        steps: &mut Steps<L>,
+        found: Option<(u64, &Entry)>,
+        end: u64,
     ) -> Result<Turn, AllocError>
-        ensures turned { (schema : Sequence TableSchema) (opening : Rows) → Follows schema opening board.now → Stands (history opening board.now.entries) self.old
-            → IfOk result (λ turn. turn ≡ turn_from self.old.query self.old.shape (history opening board.now.entries) self.old.at) }
+        ensures turned { (schema : Sequence TableSchema) (opening : Rows) (entries : Sequence SeenEntry) → IsHistory schema (history opening entries) → Stands (history opening entries) self.old
+            → IsFound self.old.query self.old.shape entries self.old.at found.entry → end ≡ length entries → IfOk result (λ turn. turn ≡ turn_from self.old.query self.old.shape (history opening entries) self.old.at) }
         ensures moved { IfOk result (λ turn. self.new ≡ moved turn self.old) }
-        ensures ahead { IfOk result (λ turn. IsAhead self.old.at (length board.now.entries) turn) }
+        ensures ahead { (entries : Sequence SeenEntry) → IsFound self.old.query self.old.shape entries self.old.at found.entry → end ≡ length entries → IfOk result (λ turn. IsAhead self.old.at (length entries) turn) }
+        ensures number { IfOk result (λ turn. number_of turn ≡ reached end found.entry) }
         ensures err { OnErr result (self.new ≡ self.old) }
-        ensures cost { IfOk result (λ turn. steps.new ≤ steps.old + changes_between self.old.at (number_of turn) board.now.entries) }
     {
-        match self.first_on(board, steps) {
+        match found {
             Some((number, entry)) => {
                 let emission = self.take_in(alloc, number, entry.set.as_slice())?;
                 Ok(Turn::Emit(number, emission))
             }
             None => {
-                let end = board.len() as u64;
                 self.at = end;
                 Ok(Turn::Still(end))
             }
@@ -277,7 +249,7 @@ impl Simple {
         ensures err { OnErr result (self.new ≡ self.old) }
         ensures cost { steps.new ≡ steps.old }
     {
-        match self.first_in(tail) {
+        match first_in(&self.query, &self.shape, tail) {
             Some((place, entry)) => {
                 let number = self.at + place;
                 let emission = self.take_in(alloc, number, entry.set.as_slice())?;

@@ -1,4 +1,4 @@
-use Rattle.std.proofs.Common.{◌≡◌, sym, ◌∙◌}
+use Rattle.std.proofs.Common.{sym, ◌∙◌}
 use Rattle.melon_table.specs.Seen.{rows_of as all_rows}
 use Rattle.melon_observe.proofs.Rowed.{shown_there, shown_nowhere}
 use Rattle.melon_observe.proofs.reloading.shown.Goals as goal

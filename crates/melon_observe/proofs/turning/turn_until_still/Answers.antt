@@ -1,4 +1,4 @@
-use Rattle.std.proofs.Common.{◌≡◌, ◌∷◌, [], ◌++◌, List, length, false, rules, sym, ap, ◌∙◌, subst, arith}
+use Rattle.std.proofs.Common.{List, rules, sym, ap, ◌∙◌, subst, arith}
 use Rattle.melon_views.specs.declared.emission.Turn.{Turn}
 use Rattle.melon_views.specs.Standing.{Observed, Stands}
 use Rattle.melon_observe.specs.Journals.{history}

@@ -1,8 +1,7 @@
-use Rattle.std.proofs.Common.{◌≡◌, ◌≢◌, List, true, false, sym, ap, ◌∙◌, subst}
+use Rattle.std.proofs.Common.{◌≡◌, ◌≢◌, List, false, ap, ◌∙◌, subst}
 use Rattle.std.proofs.lemmas.Bool.{iff_false}
 use Rattle.melon_table.specs.Seen.{SeenTable, rows_of}
 use Rattle.melon_query.specs.Simple.{is_simple}
-use Rattle.melon_views.specs.declared.emission.Emission.{Emission}
 use Rattle.melon_views.specs.declared.emission.Turn.TheVariants.{Emit, Still}
 use Rattle.melon_views.specs.Views.{shown}
 use Rattle.melon_views.specs.Standing.{Observed}

@@ -1,12 +1,11 @@
-use Rattle.std.proofs.Common.{◌≡◌, ℕ, List, true, map, filter, sym, ap, ◌∙◌, subst}
+use Rattle.std.proofs.Common.{◌≡◌, ℕ, List, true, sym, ap, ◌∙◌, subst}
 use Rattle.melon_raw.specs.Rows.{Rows}
 use Rattle.melon_raw.specs.Rows as rows
 use Rattle.melon_table.specs.Seen.{SeenTable}
 use Rattle.melon_table.specs.Seen as tables
 use Rattle.melon_query.specs.Tuples.{rows_of}
 use Rattle.melon_views.specs.Views.{shown}
-use Rattle.melon_query.specs.Shown.{shown_row}
-use Rattle.melon_views.specs.Members.{columns_of, chooses, told}
+use Rattle.melon_views.specs.Members.{columns_of, told}
 use Rattle.melon_views.proofs.Chosen.{members, shown_told}
 use Rattle.melon_observe.specs.Members.{is_ascending, have_cells}
 use Rattle.melon_observe.proofs.Shows.{read_ascending, read_cells}
