@@ -1,6 +1,5 @@
 //! Opening and closing apps.
-ghost use Rattle.std.specs.Prelude.{◌≡◌, ◌+◌, ◌++◌, ◌∷◌, ◌<◌, [], length, IfOk, OnErr, Ok, false};
-ghost use Rattle.std.specs.Vec.{vec_len, vec_capacity};
+ghost use Rattle.std.specs.Prelude.{◌≡◌, ◌+◌, [], length, IfOk, OnErr, Ok, false};
 ghost use Rattle.serde_json.specs.View.{view};
 ghost use Rattle.melon_schema.specs.Schema.{schema_of};
 ghost use Rattle.melon_table.specs.Seen.{rows_of};
@@ -59,17 +58,6 @@ fn row_count(tables: &Tables) -> u64
     count
 }
 
-/// A push that takes no memory, since there is room.
-fn push_reserved(apps: &mut Vec<App>, app: App)
-    requires { vec_len apps.old < vec_capacity apps.old }
-    ensures { apps.new.items ≡ apps.old.items ++ app ∷ [] }
-{
-    match apps.push(app) {
-        Ok(()) => (),
-        Err(_) => unreachable!(),
-    }
-}
-
 /// An app whose queue nobody has entered, without observers.
 fn just_opened(alloc: Global, store: Store) -> App
     ensures { result ≡ kept_app store no_writers [] }
@@ -97,7 +85,7 @@ fn open_under<K: Keeper>(
         Ok(store) => {
             let rows = row_count(store.board().tables());
             let last = store.last();
-            push_reserved(apps, just_opened(alloc, store));
+            apps.push_reserved(just_opened(alloc, store));
             Ok(Item::Open {
                 app: name,
                 rows,

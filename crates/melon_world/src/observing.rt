@@ -1,6 +1,5 @@
 //! Observers and watches are opened and dropped.
-ghost use Rattle.std.specs.Prelude.{◌≡◌, ◌<◌, ◌∷◌, ◌++◌, [], ℕ, List as Sequence, map, position, bytes_eq, Some, IfOk, OnErr, false};
-ghost use Rattle.std.specs.Vec.{vec_len, vec_capacity};
+ghost use Rattle.std.specs.Prelude.{◌≡◌, [], ℕ, List as Sequence, map, position, bytes_eq, Some, IfOk, OnErr, false};
 ghost use Rattle.serde_json.specs.View.{view};
 ghost use Rattle.melon_schema.specs.Json.{each};
 ghost use Rattle.melon_schema.specs.Names.{is_id};
@@ -68,17 +67,6 @@ fn taken_fault(observers: &[NamedObserver], name: &str) -> Option<u64>
     None
 }
 
-/// A push that takes no memory, since there is room.
-fn push_reserved(observers: &mut Vec<NamedObserver>, observer: NamedObserver)
-    requires { vec_len observers.old < vec_capacity observers.old }
-    ensures { observers.new.items ≡ observers.old.items ++ observer ∷ [] }
-{
-    match observers.push(observer) {
-        Ok(()) => (),
-        Err(_) => unreachable!(),
-    }
-}
-
 // ---- an observer of a query
 
 /// The place of the column of that name.
@@ -144,13 +132,10 @@ fn observe_now(
     let columns = columns_at(app.store.schema(), opened.query().table);
     let given = given_emission(alloc, columns, opened.shape(), emission)?;
     let watching = Watching::Answer(opened);
-    push_reserved(
-        &mut app.observers,
-        NamedObserver {
-            name: observer,
-            watching,
-        },
-    );
+    app.observers.push_reserved(NamedObserver {
+        name: observer,
+        watching,
+    });
     Ok(Item::Emit {
         app: app_name,
         name: said,
@@ -305,13 +290,10 @@ fn watch_now(
     match watch_store(&app.store, alloc, table, id, to) {
         Ok((opened, given)) => {
             let watching = Watching::Owner(opened);
-            push_reserved(
-                &mut app.observers,
-                NamedObserver {
-                    name: observer,
-                    watching,
-                },
-            );
+            app.observers.push_reserved(NamedObserver {
+                name: observer,
+                watching,
+            });
             Ok(Item::Emit {
                 app: app_name,
                 name: said,

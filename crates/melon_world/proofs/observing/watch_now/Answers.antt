@@ -10,8 +10,8 @@ pub returns-in-Ok-clause-item : goal.returns-in-Ok-clause-item
 returns-in-Ok-clause-item c =
     let app = c.app.inside in
     let at = c.len-at.ensures ∙ ap length c.board.ensures.entries in
-    subst (λ (was : KeptApp). told (kept_app app.store app.queue c.push_reserved.new.observers.items) (items.Emit c.in_ok-app_name.app_name c.in_ok-said.said c.len-at.result c.in-Ok.given)
+    subst (λ (was : KeptApp). told (kept_app app.store app.queue c.push_reserved.new.self.items) (items.Emit c.in_ok-app_name.app_name c.in_ok-said.said c.len-at.result c.in-Ok.given)
     ≡ watches_by as_kept c.args.name.now c.args.observer was (related was.store.schema.tables was.store.rows c.args.table c.args.id.now c.args.to)) c.app.view_is
-    ((λ i. told (kept_app app.store app.queue (c.push_reserved.ensures i)) (items.Emit (c.in_ok-app_name.ensures i) (c.in_ok-said.ensures i) (at i) c.in-Ok.given))
+    ((λ i. told (kept_app app.store app.queue (c.push_reserved.ensures.items i)) (items.Emit (c.in_ok-app_name.ensures i) (c.in_ok-said.ensures i) (at i) c.in-Ok.given))
     ∙ (λ i. told (kept_app app.store app.queue (c.in_ok-reserve.ensures.items i ++ kept_observer c.args.observer (Owns c.in-Ok.opened) ∷ [])) (items.Emit c.args.name.now c.args.observer (length app.store.entries) c.in-Ok.given))
     ∙ watch_told c.args.name.now c.args.observer (kept_app app.store app.queue app.observers.items) c.args.table c.args.id.now c.args.to c.in-Ok.opened c.in-Ok.given c.in-Ok.ensures)
