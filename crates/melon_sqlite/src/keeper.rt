@@ -41,8 +41,10 @@ impl<S: Alter> Model for SqliteKeeper<S> {
     ghost invariant = { λ k. Knows k.fits (state S.Store k.connection) };
 }
 
-/// The error as a keeper tells it.
-pub(crate) fn keeper_error(error: &Error) -> KeeperError {
+/// The error as a keeper tells it: want of memory alone is told as such.
+pub(crate) fn keeper_error(error: &Error) -> KeeperError
+    ensures { (result ≡ KeeperError.Memory) ↔ (error.now ≡ Error.SqliteFailure ErrorCode.OutOfMemory) }
+{
     match error {
         Error::SqliteFailure(ErrorCode::OutOfMemory) => KeeperError::Memory,
         _ => KeeperError::Failed,
