@@ -254,6 +254,24 @@ fn a_failing_keeper_changes_nothing(rt: HostRuntime) -> Result<(), Fail> {
         Status::Done,
         "open A rows 0 last 0\nrefused keeper 1\nwrite A at 1\n",
     )?;
+    let fourth = Outside {
+        keeper_fails: &[4],
+        ..CALM
+    };
+    expect(
+        &rt,
+        &[
+            OPENED,
+            FIRST_CREATED,
+            r#"{"do":"write","app":"A","ops":[]}"#,
+            r#"{"do":"write","app":"A","ops":[{"destroy":"posts","id":"p1"}]}"#,
+            FETCHED,
+            r#"{"do":"write","app":"A","ops":[{"destroy":"posts","id":"p1"}]}"#,
+        ],
+        &fourth,
+        Status::Done,
+        "open A rows 0 last 0\nwrite A at 1\nwrite A at 1\nrefused keeper 1\nfetch A [\"p1\"]\nwrite A at 2\n",
+    )?;
     expect(
         &rt,
         &[OPENED, FETCHED, OPENED],
