@@ -22,6 +22,26 @@ def line(form, **keys):
     return dict({"do": form}, **keys)
 
 
+def named(tables, columns, size):
+    """A schema of so many tables, each of so many columns, the last of whose names has this many bytes."""
+    names = ["c%d" % number for number in range(1, columns)] + ["n" * size]
+    return {"version": 1, "tables": [
+        {"name": "t%d" % number, "columns": [{"name": name, "type": "string"} for name in names]} for number in range(tables)
+    ]}
+
+
+def declared():
+    for given, printed in [
+        (named(64, 64, 64), "open A rows 0 last 0"),
+        (named(65, 1, 1), "refused schema 7"),
+        (named(1, 65, 1), "refused schema 7"),
+        (named(1, 1, 65), "refused schema 2"),
+    ]:
+        yield line("open", app="A", schema=given), printed
+        if printed.startswith("open"):
+            yield line("close", app="A"), "close A"
+
+
 def opened():
     for name in "ABCD":
         yield line("open", app=name, schema=schema()), "open %s rows 0 last 0" % name
@@ -90,6 +110,33 @@ def asked():
         yield line("fetch", app="D", table="posts", query=query), printed
 
 
-for part in (opened, written, queued, observed, asked):
+WIDE = ["c%02d" % number + "_" * 61 for number in range(64)]
+MOST_BYTES = 134217728
+
+
+def row_bytes(name, text):
+    """The bytes of a created row of 64 columns, the first of which keeps a text."""
+    row = {"_changed": "", "_status": "created", "id": name, **dict.fromkeys(WIDE, ""), WIDE[0]: text}
+    return len(json.dumps(row, separators=(",", ":")))
+
+
+def filled():
+    """Rows that have exactly the most bytes of a store, and one byte more."""
+    size = row_bytes("r00000", "")
+    count = MOST_BYTES // size
+    rest = MOST_BYTES - count * size
+
+    def creates(over):
+        texts = [""] * (count - 1) + ["x" * (rest + over)]
+        return [{"create": "wide", "id": "r%05d" % number, "set": {WIDE[0]: text} if text else {}} for number, text in enumerate(texts)]
+
+    wide = {"version": 1, "tables": [{"name": "wide", "columns": [{"name": name, "type": "string"} for name in WIDE]}]}
+    yield line("close", app="D"), "close D"
+    yield line("open", app="D", schema=wide), "open D rows 0 last 0"
+    yield line("write", app="D", ops=creates(1)), "refused full 1 %d" % (MOST_BYTES + 1)
+    yield line("write", app="D", ops=creates(0)), "write D at 1"
+
+
+for part in (declared, opened, written, queued, observed, asked, filled):
     for given, printed in part():
         print(printed if sys.argv[1:] == ["text"] else json.dumps(given, separators=(",", ":")))
