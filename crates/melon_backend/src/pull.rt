@@ -50,7 +50,7 @@ fn if_last(row: &ServerRow, revision: u64) -> Option<&ServerRow>
     None
 }
 
-/// The row of a stamp, unless it has a later one.
+/// The row of a stamp, unless its revision is another: then the stamp is left of a push that was not kept.
 fn fresh<'a>(table: &'a ServerTable, stamp: &Stamp) -> Option<&'a ServerRow>
     requires { IsKept table.now }
     ensures { option_copied result ≡ fresh (rows_in table.now) stamp.now }

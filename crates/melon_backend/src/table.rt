@@ -68,8 +68,8 @@ impl PartialOrd for Stamp {
     }
 }
 
-/// A place may be without a row while its table changes. A stamp may be left of a row that has a later one; such stamps
-/// are passed over.
+/// A place may be without a row while its table changes. A stamp may be left of a push that was not kept, whose record has
+/// an earlier revision or no row; such stamps are passed over.
 #[derive(Drop)]
 pub(crate) struct ServerTable {
     pub(crate) places: BTreeMap<String, Option<ServerRow>>,

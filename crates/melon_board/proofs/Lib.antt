@@ -16,6 +16,8 @@ pub mod Finding
 pub mod Bodies
 pub mod Answered
 pub mod Distinct
+pub mod Sounding
 pub mod KeptOn
 pub mod Reopened
+pub mod Again
 pub mod Continued

@@ -1,13 +1,14 @@
 -- A table in the place of another: its rows, columns and room.
-use Rattle.std.proofs.Common.{◌≡◌, ℕ, zero, suc, ◌+◌, ◌<◌, ◌≤◌, List, [], ◌∷◌, map, get_or, set, slice_get, Option, Some, None, option_map, MatchOption, refl, ap, sym, ◌∙◌, arith, length}
-use Rattle.std.proofs.lemmas.List.{map-set}
+use Rattle.std.proofs.Common.{◌≡◌, ℕ, ◌+◌, ◌<◌, ◌≤◌, List, [], map, get_or, set, slice_get, Bool, true, false, ◌&&◌, ◌==◌, Option, Some, None, option_map, MatchOption, refl, ap, sym, ◌∙◌, arith, length}
+use Rattle.std.proofs.lemmas.Bool.{eqb-true, eqb-false}
+use Rattle.std.proofs.lemmas.List.{map-set, get_or-set_same, get_or-set_other}
 use Rattle.std.proofs.Math.Seq.{map-set_same}
-use Rattle.std.proofs.lemmas.Option.{get_or_from_slice_get, slice_get-map}
+use Rattle.std.proofs.lemmas.Option.{get_or_from_slice_get, slice_get-map, slice_get_within}
 use Rattle.melon_schema.specs.declared.schema.ColumnSchema.{ColumnSchema}
 use Rattle.melon_raw.specs.declared.raw.Raw.{Raw}
 use Rattle.melon_table.specs.Seen.{SeenTable, rows_of, columns_of}
 use Rattle.melon_change.specs.Changes.{with_after}
-use Rattle.melon_board.specs.Boards.{no_table, spare_at}
+use Rattle.melon_board.specs.Boards.{no_table, spare_at, is_new, one_if, used_in}
 
 module _ (ts : List SeenTable) (t : ℕ) (x x' : SeenTable) (here : slice_get ts t ≡ Some x) where
   pub rows_here : get_or (rows_of ts) t [] ≡ x.rows
@@ -31,29 +32,34 @@ module _ (ts : List SeenTable) (t : ℕ) (x x' : SeenTable) (here : slice_get ts
   pub columns_same : x'.columns ≡ x.columns → columns_of (set ts t x') ≡ columns_of ts
   columns_same e = map-set_same (λ (s : SeenTable). s.columns) ts t x' no_table (e ∙ ap (λ (s : SeenTable). s.columns) (sym table_here))
 
-spare_set : (ts : List SeenTable) (t u : ℕ) (x' : SeenTable) → spare_at ts t ≤ x'.spare + 1 → spare_at ts u ≤ spare_at (set ts t x') u + 1
-spare_set [] t u x' h = omega arith
-spare_set (y ∷ ys) zero zero x' h = h
-spare_set (y ∷ ys) zero (suc u) x' h = omega arith
-spare_set (y ∷ ys) (suc t) zero x' h = omega arith
-spare_set (y ∷ ys) (suc t) (suc u) x' h = spare_set ys t u x' h
+both_true : (b w : Bool) → w ≡ true → (b && w) ≡ b
+both_true true w e = e
+both_true false w e = refl
 
--- where a table gives away room for one row, no table has less than that
-pub spare_less : (ts : List SeenTable) (t : ℕ) (x x' : SeenTable) → slice_get ts t ≡ Some x → x.spare ≤ x'.spare + 1 → (u : ℕ) → spare_at ts u ≤ spare_at (set ts t x') u + 1
-spare_less ts t x x' here h u = spare_set ts t u x' (omega (arith, spare_here ts t x x' here, h))
+-- where a table gives away room for a new row, the others keep theirs
+pub spare_used : (ts : List SeenTable) (t : ℕ) (x x' : SeenTable) → slice_get ts t ≡ Some x → (new : Bool) → x.spare ≤ x'.spare + one_if new → (u : ℕ) → spare_at ts u ≤ spare_at (set ts t x') u + used_in u t new
+spare_used ts t x x' here new h u = by (t == u) refl new h
+  where
+    within : t < length ts
+    within = slice_get_within ts t x here
 
--- where a table has room for n rows, the others keep theirs
-pub room_kept : (n : ℕ) (ts : List SeenTable) (t u : ℕ) (x' : SeenTable) → n ≤ x'.spare → n ≤ spare_at ts u → n ≤ spare_at (set ts t x') u
-room_kept n [] t u x' new old = old
-room_kept n (y ∷ ys) zero zero x' new old = new
-room_kept n (y ∷ ys) zero (suc u) x' new old = old
-room_kept n (y ∷ ys) (suc t) zero x' new old = old
-room_kept n (y ∷ ys) (suc t) (suc u) x' new old = room_kept n ys t u x' new old
+    by : (same : Bool) → t == u ≡ same → (b : Bool) → x.spare ≤ x'.spare + one_if b → spare_at ts u ≤ spare_at (set ts t x') u + one_if (b && (t == u))
+    by true e b k =
+        let one : t ≡ u = eqb-true t u e in
+        let was : spare_at ts u ≡ x.spare = ap (spare_at ts) (sym one) ∙ spare_here ts t x x' here in
+        let is : spare_at (set ts t x') u ≡ x'.spare = ap (spare_at (set ts t x')) (sym one) ∙ ap (λ (s : SeenTable). s.spare) (get_or-set_same ts t x' no_table within) in
+        let all : one_if b ≡ one_if (b && (t == u)) = ap one_if (sym (both_true b (t == u) e)) in
+        omega (arith, was, is, all, k)
+    by false e b k =
+        let is : spare_at (set ts t x') u ≡ spare_at ts u = ap (λ (s : SeenTable). s.spare) (get_or-set_other ts t u x' no_table (λ one. eqb-false t u e (sym one))) in
+        omega (arith, is)
 
-pub room_made : (n : ℕ) (ts : List SeenTable) (t : ℕ) (x' : SeenTable) → t < length ts → n ≤ x'.spare → n ≤ spare_at (set ts t x') t
-room_made n [] t x' within new = absurd (omega arith)
-room_made n (y ∷ ys) zero x' within new = new
-room_made n (y ∷ ys) (suc t) x' within new = room_made n ys t x' (omega arith) new
+-- the table at a place has room for n rows, and the others have theirs
+pub room_set : (n : ℕ) (ts : List SeenTable) (t : ℕ) (x' : SeenTable) → t < length ts → n ≤ x'.spare → n ≤ spare_at (set ts t x') t
+room_set n ts t x' within room = let is : spare_at (set ts t x') t ≡ x'.spare = ap (λ (s : SeenTable). s.spare) (get_or-set_same ts t x' no_table within) in omega (arith, is, room)
+
+pub room_other : (n : ℕ) (ts : List SeenTable) (t u : ℕ) (x' : SeenTable) → u < t → n ≤ spare_at ts u → n ≤ spare_at (set ts t x') u
+room_other n ts t u x' before room = let is : spare_at (set ts t x') u ≡ spare_at ts u = ap (λ (s : SeenTable). s.spare) (get_or-set_other ts t u x' no_table (λ one. absurd (omega (arith, one)))) in omega (arith, is, room)
 
 -- a table whose rows have this row after of an id
 pub put_done : (ts : List SeenTable) (t : ℕ) (x x' : SeenTable) → slice_get ts t ≡ Some x → (id : List ℕ) (after now : Option Raw) → after ≡ now → x'.rows ≡ with_after id now x.rows → rows_of (set ts t x') ≡ set (rows_of ts) t (with_after id after (get_or (rows_of ts) t []))
@@ -61,6 +67,6 @@ put_done ts t x x' here id after now same e =
     rows_set ts t x x' here (with_after id now x.rows) e
     ∙ ap (λ (rs : List Raw). set (rows_of ts) t rs) (ap (λ (rs : List Raw). with_after id now rs) (sym (rows_here ts t x x' here)) ∙ ap (λ (a : Option Raw). with_after id a (get_or (rows_of ts) t [])) (sym same))
 
-pub spare_put : (was : Option Raw) (new old : ℕ) → MatchOption was (new + 1 ≡ old) (λ _. new ≡ old) → old ≤ new + 1
-spare_put None new old h = omega (arith, h)
-spare_put (Some r) new old h = omega (arith, h)
+pub spare_put : (was : Option Raw) (row : Raw) (new old : ℕ) → MatchOption was (new + 1 ≡ old) (λ _. new ≡ old) → old ≤ new + one_if (is_new was (Some row))
+spare_put None row new old h = omega (arith, h)
+spare_put (Some r) row new old h = omega (arith, h)

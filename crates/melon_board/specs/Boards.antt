@@ -1,5 +1,5 @@
 -- What contracts see of a board, and what an entry to be installed is.
-use Rattle.std.specs.Prelude.{◌≡◌, ℕ, ◌<◌, ◌≤◌, List, [], ◌∷◌, map, get_or, nat_lt, Bool, true, false, Option, Some, None, length}
+use Rattle.std.specs.Prelude.{◌≡◌, ℕ, ◌+◌, ◌<◌, ◌≤◌, List, [], ◌∷◌, map, get_or, nat_lt, Bool, true, false, ◌&&◌, ◌==◌, Option, Some, None, length}
 use Rattle.std.specs.List.{list_all}
 use Rattle.melon_schema.specs.declared.schema.ColumnSchema.{ColumnSchema}
 use Rattle.melon_schema.specs.declared.schema.TableSchema.{TableSchema}
@@ -35,14 +35,22 @@ no_table = record { columns = []; rows = []; spare = 0 }
 abbrev pub spare_at : List SeenTable → ℕ → ℕ
 spare_at tables t = (get_or tables t no_table).spare
 
--- each table in which the changes make a record has room for n more
-abbrev pub RoomFor : List SeenTable → ℕ → List Change → Type 0
-RoomFor tables n [] = Unit {0}
-RoomFor tables n (c ∷ cs) = (makes_row c ≡ true → n ≤ spare_at tables c.table) × RoomFor tables n cs
+abbrev pub one_if : Bool → ℕ
+one_if true = 1
+one_if false = 0
 
--- each table in which the changes make a record has room for as many rows as there are changes
+-- how many rows are used of the table at place t by one in the table at place u, where that is new
+abbrev pub used_in : ℕ → ℕ → Bool → ℕ
+used_in t u new = one_if (new && (u == t))
+
+-- how many records the changes make in the table at a place
+abbrev pub rows_made : ℕ → List Change → ℕ
+rows_made t [] = 0
+rows_made t (c ∷ cs) = used_in t c.table (makes_row c) + rows_made t cs
+
+-- each table has room for the records that the changes make in it
 abbrev pub HasRoom : List SeenTable → List Change → Type 0
-HasRoom tables set = RoomFor tables (length set) set
+HasRoom tables set = (t : ℕ) → rows_made t set ≤ spare_at tables t
 
 -- room was made for the set, and its rows after were copied
 pub record IsReady (board : SeenBoard) (set : List Change) : Type 0 where

@@ -1,13 +1,16 @@
 -- What holds of every open store, and that each plan keeps it.
-use Rattle.std.specs.Prelude.{◌≡◌, ℕ, List, length, Bool, true, Option, Some, None, Result, Ok}
+use Rattle.std.specs.Prelude.{◌≡◌, ℕ, List, [], length, Bool, true, IsUtf8, Option, Some, None, Result, Ok}
+use Rattle.std.specs.List.{AllByRecursion}
 use Rattle.serde_json.specs.Data.{Data}
 use Rattle.melon_schema.specs.Names.{are_distinct}
 use Rattle.melon_schema.specs.Schema.{schema_of}
+use Rattle.melon_schema.specs.Sound.{AreSound}
 use Rattle.melon_schema.specs.Seen.{SeenSchema}
 use Rattle.melon_schema.specs.declared.schema.TableSchema.{TableSchema}
 use Rattle.melon_raw.specs.Rows.{Rows}
 use Rattle.melon_outside.specs.declared.kept.Kept.{Kept}
 use Rattle.melon_outside.specs.declared.kept.KeptBatch.{KeptBatch}
+use Rattle.melon_outside.specs.declared.kept.KeptRow.{KeptRow}
 use Rattle.melon_outside.specs.Kept.{batched, is_in_order}
 use Rattle.melon_change.specs.declared.op.Op.{Op}
 use Rattle.melon_change.specs.declared.change.Change.{Change}
@@ -17,7 +20,7 @@ use Rattle.melon_board.specs.Boards.{AreKept}
 use Rattle.melon_board.specs.Stores.{SeenStore, with_last, Continues}
 use Rattle.melon_board.specs.Batches.{last_batch}
 use Rattle.melon_board.specs.Plans.{Plan, install_plan, write_plan}
-use Rattle.melon_board.specs.Opening.{open_plan}
+use Rattle.melon_board.specs.Opening.{open_plan, opened}
 use Rattle.melon_board.specs.Keeps.{Keeps}
 
 -- no two tables have one name
@@ -87,3 +90,25 @@ SavesContinue = (opening : Rows) (store : SeenStore) (at : ℕ) → Continues op
 -- A schema that is read declares tables with different names.
 abbrev pub ReadSchemasHaveDifferentNames : Type 0
 ReadSchemasHaveDifferentNames = (d : Data) (schema : SeenSchema) → schema_of d ≡ Ok schema → have_different_names schema.tables ≡ true
+
+abbrev pub HasSoundColumns : TableSchema → Type 0
+HasSoundColumns table = AreSound table.columns
+
+-- Each of its tables has columns of different names, after the rule for names and none reserved.
+abbrev pub ReadSchemasAreSound : Type 0
+ReadSchemasAreSound = (d : Data) (schema : SeenSchema) → schema_of d ≡ Ok schema → AllByRecursion HasSoundColumns schema.tables
+
+-- ---- what is kept opens again
+
+-- the store as it is opened again: with its rows and its timestamp, and no entry
+abbrev pub opened_again : SeenStore → SeenStore
+opened_again store = record { name = store.name; schema = store.schema; rows = store.rows; entries = []; last = store.last }
+
+-- each body that is kept is a text
+abbrev pub AreTexts : List KeptRow → Type 0
+AreTexts kept = AllByRecursion (λ row. IsUtf8 row.body) kept
+
+-- What is kept of a store opens under its schema as that store.
+abbrev pub KeptStoresOpenAgain : Type 0
+KeptStoresOpenAgain =
+    (store : SeenStore) (kept : Kept) → IsWellFormed store → AllByRecursion HasSoundColumns store.schema.tables → Keeps store kept → AreTexts kept.rows → opened store.name store.schema kept ≡ Ok (opened_again store)

@@ -4,7 +4,7 @@ ghost use Rattle.melon_raw.specs.Rows.{at};
 ghost use Rattle.melon_table.specs.Seen.{rows_of, columns_of};
 ghost use Rattle.melon_change.specs.Changes.{key, with_after, after_set};
 ghost use Rattle.melon_change.specs.History.{KeepsId, FitsIfAny};
-ghost use Rattle.melon_board.specs.Boards.{is_new, makes_row, afters, spare_at, RoomFor, HasRoom, are_within, AreNow};
+ghost use Rattle.melon_board.specs.Boards.{is_new, makes_row, afters, spare_at, used_in, rows_made, HasRoom, are_within, AreNow};
 
 use melon_change::Change;
 use melon_raw::{Id, Raw};
@@ -34,19 +34,39 @@ pub fn copy_afters(alloc: Global, changes: &[Change]) -> Result<List<Option<Raw>
     Ok(rows)
 }
 
-/// Makes room for `n` rows in each table in which the changes make a record.
-pub fn make_room(tables: &mut Tables, changes: &[Change], n: usize) -> Result<(), AllocError>
+/// How many records a change makes in the table at a place.
+fn used_in(table: usize, change: &Change) -> usize
+    ensures used { result ≡ used_in table change.now.table (makes_row change.now) }
+    ensures one { result ≤ 1 }
+{
+    if makes_row(change) && change.table == table {
+        1
+    } else {
+        0
+    }
+}
+
+/// How many records the changes make in the table at a place.
+fn rows_made(table: usize, changes: &[Change]) -> usize
+    ensures { result ≡ rows_made table changes.now }
+{
+    let mut made = 0;
+    for change in changes {
+        made += used_in(table, change);
+    }
+    made
+}
+
+/// Makes room in each table for the records that the changes make in it.
+pub fn make_room(tables: &mut Tables, changes: &[Change]) -> Result<(), AllocError>
     requires { are_within (length tables.old) changes.now ≡ true }
-    ensures ok { OnOk result (RoomFor tables.new n changes.now) }
+    ensures ok { OnOk result (HasRoom tables.new changes.now) }
     ensures rows { rows_of tables.new ≡ rows_of tables.old }
     ensures columns { columns_of tables.new ≡ columns_of tables.old }
 {
-    let mut left = changes;
-    while let Some((change, later)) = left.split_first() {
-        if makes_row(change) {
-            tables.of_mut(change.table).room(n)?;
-        }
-        left = later;
+    for table in 0..tables.len() {
+        let made = rows_made(table, changes);
+        tables.of_mut(table).room(made)?;
     }
     Ok(())
 }
@@ -59,7 +79,7 @@ fn put_after(tables: &mut Tables, table: usize, id: &Id, row: Option<Raw>)
     requires room { is_new (at (rows_of tables.old) (key table id.now)) row ≡ true → 0 < spare_at tables.old table }
     ensures rows { rows_of tables.new ≡ set (rows_of tables.old) table (with_after id.now row (get_or (rows_of tables.old) table [])) }
     ensures columns { columns_of tables.new ≡ columns_of tables.old }
-    ensures spare { (t : ℕ) → spare_at tables.old t ≤ spare_at tables.new t + 1 }
+    ensures spare { (t : ℕ) → spare_at tables.old t ≤ spare_at tables.new t + used_in t table (is_new (at (rows_of tables.old) (key table id.now)) row) }
 {
     match row {
         Some(row) => {

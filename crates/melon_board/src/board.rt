@@ -102,7 +102,7 @@ impl Board {
         let changes = set.as_slice();
         let rows = copy_afters(alloc, changes)?;
         self.entries.reserve(1)?;
-        make_room(&mut self.tables, changes, changes.len())?;
+        make_room(&mut self.tables, changes)?;
         self.ready = Some(rows);
         Ok(())
     }

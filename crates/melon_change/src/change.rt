@@ -101,14 +101,6 @@ impl ChangeSet {
         ChangeSet { changes }
     }
 
-    /// The changes, taken out of the set.
-    pub fn into_list(self) -> List<Change>
-        ensures { result ≡ self }
-    {
-        let ChangeSet { changes } = self;
-        changes
-    }
-
     /// The changes in their order.
     pub fn as_slice(&self) -> &[Change]
         ensures { result.now ≡ self.now }

@@ -1,5 +1,5 @@
-//! The rows of a joined table by the key that they hold. Of the rows under one key only those are kept that meet an `on`
-//! which no kept one before them meets.
+//! The rows of a joined table by the key that they hold. A row is left out where one that was kept before it meets each
+//! `on` that it meets.
 ghost use Rattle.std.specs.Prelude.{◌≡◌, ℕ, List as Sequence, [], ◌<◌, Some, IfOk, OnOk, filter, length, bytes_eq, if◌then◌else◌};
 ghost use Rattle.std.specs.List.{list_any};
 ghost use Rattle.melon_eval.specs.Asking.{is_below};

@@ -1,4 +1,4 @@
--- What a call moves: bytes out of a source and into a sink, values out of a list and into one, where the object tells them.
+-- What a call moves: bytes out of a source and into a sink, where the object tells them.
 use Rattle.std.specs.Prelude.{◌≡◌, ℕ, ◌≤◌, ◌<◌, List, [], ◌∷◌, ◌++◌, length, take, Result, MatchResult}
 use Rattle.std.specs.declared.option.Option.{Option}
 use Rattle.std.specs.Prelude.{Some, None}
@@ -51,17 +51,3 @@ abbrev pub Writes : {E : Type 0} → Option (List ℕ) → Option (List ℕ) →
 Writes old new piece result = MatchResult result
     (λ n. (n ≤ length piece) × Grows old new (take n piece) × (0 < length piece → 0 < n))
     (λ _. new ≡ old)
-
--- this one stood first, and the others are left
-abbrev pub MovesFirst : {A : Type 0} → A → Option (List A) → Option (List A) → Type 0
-MovesFirst {A} x None None = Unit {0}
-MovesFirst {A} x None (Some new) = ⊥
-MovesFirst {A} x (Some old) None = ⊥
-MovesFirst {A} x (Some old) (Some new) = old ≡ x ∷ new
-
--- this one was put at the end
-abbrev pub Appends : {A : Type 0} → A → Option (List A) → Option (List A) → Type 0
-Appends {A} x None None = Unit {0}
-Appends {A} x None (Some new) = ⊥
-Appends {A} x (Some old) None = ⊥
-Appends {A} x (Some old) (Some new) = new ≡ old ++ x ∷ []

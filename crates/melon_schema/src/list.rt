@@ -122,11 +122,11 @@ impl<T: Drop> List<T> {
 
 impl<T: Twin + Drop> Twin for List<T> {
     fn copy(&self, alloc: Global) -> Result<List<T>, AllocError> {
-        let mut all = List::new(alloc);
+        let mut all = Vec::with_capacity(alloc, self.len())?;
         for item in self.as_slice() {
             all.push(item.copy(alloc)?)?;
         }
-        Ok(all)
+        Ok(List::from_vec(all))
     }
 
     fn same(&self, other: &List<T>) -> bool {

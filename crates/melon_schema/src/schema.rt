@@ -21,14 +21,15 @@ pub struct ColumnSchema {
     pub indexed: bool,
 }
 
-/// How a table's rows lead to those of another table: by a key column of their own, or by one of the other table.
+/// How a table's rows lead to those of a declared table, which may be their own: by a key column of their own, or by one
+/// of that table.
 #[derive(Debug, Drop)]
 pub enum Association {
     BelongsTo { table: Text, key: Text },
     HasMany { table: Text, key: Text },
 }
 
-/// A declared table. Its associations ascend by the other table's name.
+/// A declared table. Its associations ascend by the names of the tables to which they lead.
 #[derive(Debug, Drop)]
 pub struct TableSchema {
     pub name: Text,

@@ -172,8 +172,8 @@ pub(crate) fn are_own_associations(schema: &AppSchema, own: &TableSchema) -> boo
 
 impl AppSchema {
     /// The schema that the JSON is: an object of a version from 1 to 9007199254740991 and at most 64 tables, each with
-    /// a name, at most 64 columns and, where it has any, associations by the other tables' names, as WatermelonDB's
-    /// page "Schema" has them. For any other JSON it tells the first fault.
+    /// a name, at most 64 columns and, where it has any, associations by the names of declared tables. For any other
+    /// JSON it tells the first fault.
     #[tactic(auto, unfolding(crate::specs::Schema::schema_of))]
     pub fn read(alloc: Global, json: &Value) -> Result<AppSchema, SchemaFault>
         ensures { Gives SchemaFault.Memory result (schema_of (view json.now)) }

@@ -1,5 +1,5 @@
 -- What holds of views, and of observers that stand on a history.
-use Rattle.std.specs.Prelude.{◌≡◌, ℕ, ◌+◌, ◌<◌, ◌≤◌, List, [], ◌++◌, length, get_or, slice_get, true, false, not, Option, Some, None}
+use Rattle.std.specs.Prelude.{◌≡◌, ◌↔◌, ℕ, ◌+◌, ◌<◌, ◌≤◌, List, [], ◌++◌, length, get_or, slice_get, true, false, not, Option, Some, None}
 use Rattle.melon_schema.specs.declared.schema.TableSchema.{TableSchema}
 use Rattle.melon_raw.specs.Rows.{Rows, is_ascending}
 use Rattle.melon_query.specs.declared.query.Query.{Query}
@@ -9,6 +9,7 @@ use Rattle.melon_change.specs.declared.history.Entry.{Entry}
 use Rattle.melon_change.specs.Changes.{after_set}
 use Rattle.melon_change.specs.History.{History, IsEntry, IsLegal}
 use Rattle.melon_views.specs.declared.emission.Shape.{Shape}
+use Rattle.melon_views.specs.declared.emission.Emission.{Emission}
 use Rattle.melon_views.specs.Views.{shown, view}
 use Rattle.melon_views.specs.Due.{is_same, due, turn_from}
 use Rattle.melon_views.specs.Members.{matters, touches}
@@ -22,6 +23,10 @@ Ascend rows = (t : ℕ) → is_ascending (get_or rows t []) ≡ true
 pub record IsHistory (schema : List TableSchema) (h : History) : Type 0 where
   pub ascend : Ascend h.opening
   pub legal : IsLegal schema h.opening h.entries
+
+-- Two emissions are told apart exactly where they are different.
+abbrev pub EmissionsCompareExactly : Type 0
+EmissionsCompareExactly = (a b : Emission) → (is_same a b ≡ true) ↔ (a ≡ b)
 
 -- A legal entry changes what a simple query shows exactly where it matters.
 abbrev pub EntriesChangeViews : Type 0

@@ -1,5 +1,5 @@
 //! What holds of views, and of observers that stand on a history.
-ghost use Rattle.melon_views.specs.Laws.{EntriesChangeViews, OthersChangeNothing, UntouchedViewsStay, FirstDue, NoneDue, GrownViewsStay, GrownHistoriesKeepStanding, TurnsKeepStanding};
+ghost use Rattle.melon_views.specs.Laws.{EmissionsCompareExactly, EntriesChangeViews, OthersChangeNothing, UntouchedViewsStay, FirstDue, NoneDue, GrownViewsStay, GrownHistoriesKeepStanding, TurnsKeepStanding};
 ghost use Rattle.melon_views.specs.Turns.{TurnsGoAhead, TurnsFollow, TurnsShowViews};
 
 /// A legal entry changes what a simple query shows exactly where some change of it makes a member come, go or show other
@@ -19,6 +19,11 @@ pub fn other_tables_change_nothing()
 pub fn emissions_are_due()
     ensures first { FirstDue }
     ensures none { NoneDue }
+{}
+
+/// Two emissions are told apart exactly where they are different.
+pub fn emissions_compare_exactly()
+    ensures { EmissionsCompareExactly }
 {}
 
 /// A history that has grown shows what it showed, and keeps every observer standing.

@@ -1,27 +1,32 @@
-use Rattle.std.proofs.Common.{length, ◌∙◌}
+use Rattle.std.proofs.Common.{◌≡◌, ◌<◌, ℕ, length, true, sym, ◌∙◌, subst, arith, length-set}
+use Rattle.std.proofs.lemmas.Option.{slice_get_within}
+use Rattle.melon_board.specs.Boards.{are_within}
 use Rattle.melon_board.proofs.Rowed.{rows_same, columns_same}
-use Rattle.melon_board.proofs.Roomed.{made_room, making_done, within_set, within_here}
+use Rattle.melon_board.proofs.Roomed.{room_more, room_all}
 use Rattle.melon_board.proofs.apply.make_room.Goals as goal
 
 pub returns-in_err-room-clause-rows : goal.returns-in_err-room-clause-rows
-returns-in_err-room-clause-rows c = rows_same c.loop-change.tables c.in-Some.change.now.table c.of_mut.result.now c.room.new.self c.of_mut.ensures.value c.room.ensures.rows ∙ c.loop-change.invariant.rows
+returns-in_err-room-clause-rows c = rows_same c.loop-table.tables c.loop-table.table c.of_mut.result.now c.room.new.self c.of_mut.ensures.value c.room.ensures.rows ∙ c.loop-table.invariant.rows
 
 pub returns-in_err-room-clause-columns : goal.returns-in_err-room-clause-columns
-returns-in_err-room-clause-columns c = columns_same c.loop-change.tables c.in-Some.change.now.table c.of_mut.result.now c.room.new.self c.of_mut.ensures.value c.room.ensures.columns ∙ c.loop-change.invariant.columns
+returns-in_err-room-clause-columns c = columns_same c.loop-table.tables c.loop-table.table c.of_mut.result.now c.room.new.self c.of_mut.ensures.value c.room.ensures.columns ∙ c.loop-table.invariant.columns
 
-pub loop-change-preserved-in_ok-room : goal.loop-change-preserved-in_ok-room
-loop-change-preserved-in_ok-room c =
-    let is = c.in-Some.ensures.cases.0 in
-    let kept = c.loop-change.invariant in
+pub loop-table-preserved : goal.loop-table-preserved
+loop-table-preserved c =
+    let tables = c.loop-table.tables in
+    let t = c.loop-table.table in
+    let kept = c.loop-table.invariant in
+    let within : t < length tables = slice_get_within tables t c.of_mut.result.now c.of_mut.ensures.value in
+    let made = c.rows_made-made.ensures in
     record {
-      within = within_set c.loop-change.tables c.room.new.self c.loop-change.left.now c.in-Some.change.now c.in-Some.later.now is kept.within;
-      rows = rows_same c.loop-change.tables c.in-Some.change.now.table c.of_mut.result.now c.room.new.self c.of_mut.ensures.value c.room.ensures.rows ∙ kept.rows;
-      columns = columns_same c.loop-change.tables c.in-Some.change.now.table c.of_mut.result.now c.room.new.self c.of_mut.ensures.value c.room.ensures.columns ∙ kept.columns;
-      made =
-          made_room c.args.n c.args.changes.now c.loop-change.left.now c.loop-change.tables c.room.new.self c.in-Some.change.now c.in-Some.later.now is
-          (within_here (length c.loop-change.tables) c.loop-change.left.now c.in-Some.change.now c.in-Some.later.now is kept.within)
-          c.in_ok-room.ensures.ok kept.made;
+      long = length-set tables t c.room.new.self ∙ kept.long;
+      rows = rows_same tables t c.of_mut.result.now c.room.new.self c.of_mut.ensures.value c.room.ensures.rows ∙ kept.rows;
+      columns = columns_same tables t c.of_mut.result.now c.room.new.self c.of_mut.ensures.value c.room.ensures.columns ∙ kept.columns;
+      made = room_more t tables c.room.new.self c.args.changes.now within (omega (arith, made, c.in_ok-room.ensures.ok)) kept.made;
     }
 
 pub returns-clause-ok : goal.returns-clause-ok
-returns-clause-ok c = making_done c.args.n c.args.changes.now c.loop-change.left.now c.loop-change.tables c.in_default.ensures.cases c.loop-change.invariant.made
+returns-clause-ok c =
+    let kept = c.loop-table.invariant in
+    room_all c.loop-table.table c.loop-table.tables c.args.changes.now (omega (arith, kept.long, c.len-table-end.ensures, c.loop-table-test.false, c.loop-table.auto.table-end))
+    (subst (λ (n : ℕ). are_within n c.args.changes.now ≡ true) (sym kept.long) c.requires) kept.made
