@@ -6,3 +6,5 @@ pub mod Placed
 pub mod Empty
 pub mod Stock
 pub mod Unsynced
+pub mod Joined
+pub mod Counted

@@ -1,10 +1,8 @@
 -- Keys and the rows that they have: what is read at a place, and what a put, a removal and an insertion leave.
-use Rattle.std.proofs.Common.{◌≡◌, ◌≢◌, ℕ, zero, suc, ◌<◌, ◌≤◌, List, [], ◌∷◌, length, set, get_or, Bool, true, false, cond, Option, Some, None, is_some, slice_get, refl, sym, ap, subst, ◌∙◌, inl, inr, arith}
+use Rattle.std.proofs.Common.{◌≡◌, ◌≢◌, ℕ, zero, suc, ◌<◌, ◌≤◌, List, [], ◌∷◌, length, set, Bool, true, false, cond, Option, Some, None, is_some, slice_get, refl, sym, ap, subst, ◌∙◌, inl, inr, arith}
 use Rattle.std.specs.List.{AllByRecursion, cons_option, insert, remove}
 use Rattle.std.proofs.lemmas.Bool.{cases_eq}
 use Rattle.std.proofs.lemmas.List.Sums.{sum_by-set}
-use Rattle.std.proofs.lemmas.Option.{slice_get_read}
-use Rattle.std.specs.Vec.{vec_len}
 use Rattle.slab.specs.Slab.{Slab, get, ContainsKey, slab_len, with_value, Updates}
 use Rattle.slab.proofs.SlabLemmas.{ContainsKey-within}
 use Rattle.melon_raw.specs.declared.raw.Raw.{Raw}
@@ -151,19 +149,16 @@ module _ (old new : Slab Raw) (key : ℕ) where
 -- ---- a shelf
 
 module _ (s : Inside) (seen : SeenShelf) (is : shelf_in s ≡ seen) (keeps : KeepsStock s) where
-  pub len_is : vec_len s.order ≡ length seen.rows
-  len_is = s.order.ok.0 ∙ (sym (length-rows_at s.rows s.order.items keeps.held) ∙ ap (λ t. length t.rows) is)
+  pub len_is : length s.order.keys ≡ length seen.rows
+  len_is = sym (length-rows_at s.rows s.order.keys keeps.held) ∙ ap (λ t. length t.rows) is
 
   module _ (place : ℕ) (within : place < length seen.rows) where
-    pub inside : place < vec_len s.order
+    pub inside : place < length s.order.keys
     inside = omega (arith, within, len_is)
 
-    module _ (key : ℕ) (read : key ≡ get_or s.order.items place key) where
-      pub key_at : slice_get s.order.items place ≡ Some key
-      key_at = slice_get_read s.order.items (vec_len s.order) place key s.order.ok.0 inside read
-
+    module _ (key : ℕ) (at : slice_get s.order.keys place ≡ Some key) where
       pub has_row : ContainsKey s.rows key
-      has_row = held_at s.rows s.order.items place key keeps.held key_at
+      has_row = held_at s.rows s.order.keys place key keeps.held at
 
       pub row_is : slice_get seen.rows place ≡ get s.rows key
-      row_is = sym (ap (λ t. slice_get t.rows place) is) ∙ row_at s.rows s.order.items place key keeps.held key_at
+      row_is = sym (ap (λ t. slice_get t.rows place) is) ∙ row_at s.rows s.order.keys place key keeps.held at

@@ -5,3 +5,5 @@ pub mod Kept
 pub mod Lent
 pub mod Places
 pub mod Stocked
+pub mod Late
+pub mod Keyed

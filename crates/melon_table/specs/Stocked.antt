@@ -1,7 +1,6 @@
 -- What a shelf's fields stand for.
-use Rattle.std.specs.Prelude.{◌≢◌, ℕ, ◌+◌, ◌≤◌, List, [], ◌∷◌}
+use Rattle.std.specs.Prelude.{◌≢◌, ℕ, ◌+◌, ◌≤◌, List, [], ◌∷◌, length}
 use Rattle.std.specs.List.{AllByRecursion, filter_map}
-use Rattle.std.specs.Vec.{vec_len, vec_capacity}
 use Rattle.slab.specs.Slab.{Slab, get, ContainsKey, HasRoomFor}
 use Rattle.melon_raw.specs.declared.raw.Raw.{Raw}
 use Rattle.melon_table.specs.declared.shelf.Shelf.TheInside.{Inside}
@@ -25,11 +24,11 @@ AreApart [] = Unit {0}
 AreApart (key ∷ keys) = Lacks keys key × AreApart keys
 
 abbrev pub shelf_in : Inside → SeenShelf
-shelf_in s = record { rows = rows_at s.rows s.order.items; spare = s.spare }
+shelf_in s = record { rows = rows_at s.rows s.order.keys; spare = s.spare }
 
 -- Each key has a row of its own, and the spare rows fit without memory.
 pub record KeepsStock (s : Inside) : Type 0 where
-  pub held : AllHeld s.rows s.order.items
-  pub apart : AreApart s.order.items
-  pub keys_fit : vec_len s.order + s.spare ≤ vec_capacity s.order
+  pub held : AllHeld s.rows s.order.keys
+  pub apart : AreApart s.order.keys
+  pub keys_fit : length s.order.keys + s.spare ≤ s.order.most
   pub rows_fit : HasRoomFor s.rows s.spare

@@ -1,8 +1,8 @@
 //! Rows at places. Each row stays where it was first put, and only the keys to them move.
 ghost use Rattle.std.specs.Prelude.{◌≡◌, ◌+◌, ◌<◌, ◌≤◌, [], length, slice_get, slice_set, Some, OnOk, OnErr};
 ghost use Rattle.std.specs.List.{insert, remove};
-ghost use Rattle.std.specs.Vec.{vec_len, vec_capacity};
 
+use crate::keys::Keys;
 use melon_raw::Raw;
 use slab::Slab;
 use std::alloc::{AllocError, Global};
@@ -14,7 +14,7 @@ use std::mem;
 pub struct Shelf {
     rows: Slab<Raw>,
     // The key of each row, by place.
-    order: Vec<usize>,
+    order: Keys,
     // For how many more rows there is room.
     spare: usize,
 }
@@ -31,20 +31,6 @@ impl Model for Shelf {
     ghost invariant = { KeepsStock };
 }
 
-/// An insertion that takes no memory, since there is room.
-fn insert_reserved(order: &mut Vec<usize>, place: usize, key: usize)
-    requires within { place ≤ vec_len order.old }
-    requires room { vec_len order.old < vec_capacity order.old }
-    ensures items { order.new.items ≡ insert order.old.items place key }
-    ensures capacity { vec_capacity order.new ≡ vec_capacity order.old }
-    ensures len { vec_len order.new ≡ vec_len order.old + 1 }
-{
-    match order.insert(place, key) {
-        Ok(()) => (),
-        Err(_) => unreachable!(),
-    }
-}
-
 impl Shelf {
     /// A shelf without rows.
     pub fn new(alloc: Global) -> Shelf
@@ -52,7 +38,7 @@ impl Shelf {
     {
         Shelf {
             rows: Slab::new(alloc),
-            order: Vec::new(alloc),
+            order: Keys::new(alloc),
             spare: 0,
         }
     }
@@ -64,7 +50,7 @@ impl Shelf {
         ensures err { OnErr result (self.new ≡ self.old) }
     {
         if self.spare < n {
-            self.order.reserve(n)?;
+            self.order.room(n)?;
             self.rows.reserve(n)?;
             self.spare = n;
         }
@@ -83,7 +69,7 @@ impl Shelf {
         requires { place < length self.now.rows }
         ensures { slice_get self.now.rows place ≡ Some result.now }
     {
-        &self.rows[self.order[place]]
+        &self.rows[self.order.at(place)]
     }
 
     /// Puts a row in the stead of the one at a place, and gives that one back.
@@ -93,7 +79,7 @@ impl Shelf {
         ensures rows { self.new.rows ≡ slice_set self.old.rows place row }
         ensures spare { self.new.spare ≡ self.old.spare }
     {
-        let key = self.order[place];
+        let key = self.order.at(place);
         mem::replace(&mut self.rows[key], row)
     }
 
@@ -105,7 +91,7 @@ impl Shelf {
         ensures spare { self.new.spare + 1 ≡ self.old.spare }
     {
         let key = self.rows.insert_reserved(row);
-        insert_reserved(&mut self.order, place, key);
+        self.order.insert(place, key);
         self.spare -= 1;
     }
 

@@ -1,4 +1,4 @@
-use Rattle.std.proofs.Common.{◌≡◌, ◌+◌, ◌-◌, ◌/◌, List, ℕ, refl, sym, subst, ap, ◌∙◌}
+use Rattle.std.proofs.Common.{◌+◌, ◌-◌, ◌/◌, List, ℕ, refl, sym, subst, ap, ◌∙◌}
 use Rattle.melon_raw.specs.Order.{id_cmp}
 use Rattle.melon_table.proofs.Halving.{Kept, go_right, go_left, equal_ids, ascends_at}
 use Rattle.melon_table.proofs.search.place_of.Goals as goal

@@ -2,11 +2,11 @@ use Rattle.std.proofs.Common.{◌∙◌}
 use Rattle.melon_table.proofs.Stock.{inside, has_row, row_is}
 use Rattle.melon_table.proofs.shelf.Shelf.at.Goals as goal
 
-pub index-requires : goal.index-requires
-index-requires c = inside c.self.inside _ c.self.view_is c.self.invariant c.args.place c.requires
+pub at-requires : goal.at-requires
+at-requires c = inside c.self.inside _ c.self.view_is c.self.invariant c.args.place c.requires
 
-pub index-requires-2 : goal.index-requires-2
-index-requires-2 c = has_row c.self.inside _ c.self.view_is c.self.invariant c.args.place c.requires c.index.result.now c.index.ensures
+pub index-requires : goal.index-requires
+index-requires c = has_row c.self.inside _ c.self.view_is c.self.invariant c.args.place c.requires c.at.result c.at.ensures
 
 pub returns : goal.returns
-returns c = row_is c.self.inside _ c.self.view_is c.self.invariant c.args.place c.requires c.index.result.now c.index.ensures ∙ c.index-2.ensures
+returns c = row_is c.self.inside _ c.self.view_is c.self.invariant c.args.place c.requires c.at.result c.at.ensures ∙ c.index.ensures

@@ -1,24 +1,27 @@
 use Rattle.std.proofs.Common.{◌≤◌, ℕ, List, length, sym, ap, subst, ◌∙◌, arith}
 use Rattle.std.specs.List.{insert}
+use Rattle.std.proofs.lemmas.List.Edits.{length-insert}
 use Rattle.melon_table.specs.Stocked.{rows_at, AllHeld, AreApart}
 use Rattle.melon_table.proofs.Stock.{len_is, lacks_new, held-insert, rows-insert, apart-insert}
 use Rattle.melon_table.proofs.shelf.Shelf.insert.Goals as goal
 
-pub insert_reserved-requires-clause-within : goal.insert_reserved-requires-clause-within
-insert_reserved-requires-clause-within c = omega (arith, c.requires.within, len_is c.self.inside _ c.self.view_is c.self.invariant)
+pub insert-requires-clause-within : goal.insert-requires-clause-within
+insert-requires-clause-within c = omega (arith, c.requires.within, len_is c.self.inside _ c.self.view_is c.self.invariant)
 
 pub invariant_of-self : goal.invariant_of-self
 invariant_of-self c =
     let s = c.self.inside in
     let key = c.insert_reserved-key.result in
     let new = c.insert_reserved-key.new.self in
-    let lacks = lacks_new s.rows s.order.items key c.self.invariant.held c.insert_reserved-key.ensures.was_vacant in
-    let held = held-insert s.rows new key c.args.row c.insert_reserved-key.ensures.updates s.order.items c.args.place c.self.invariant.held in
-    let keys = sym c.insert_reserved.ensures.items in
+    let lacks = lacks_new s.rows s.order.keys key c.self.invariant.held c.insert_reserved-key.ensures.was_vacant in
+    let held = held-insert s.rows new key c.args.row c.insert_reserved-key.ensures.updates s.order.keys c.args.place c.self.invariant.held in
+    let keys = sym c.insert.ensures.keys in
     record {
       held = subst (λ (ks : List ℕ). AllHeld new ks) keys held;
-      apart = subst (λ (ks : List ℕ). AreApart ks) keys (apart-insert s.order.items c.args.place key c.self.invariant.apart lacks);
-      keys_fit = omega (arith, c.self.invariant.keys_fit, c.insert_reserved.ensures.len, c.insert_reserved.ensures.capacity, c.requires.room, ap (λ t. t.spare) c.self.view_is);
+      apart = subst (λ (ks : List ℕ). AreApart ks) keys (apart-insert s.order.keys c.args.place key c.self.invariant.apart lacks);
+      keys_fit =
+          let more = length-insert s.order.keys c.args.place key (omega (arith, c.requires.within, len_is s _ c.self.view_is c.self.invariant)) in
+          omega (arith, c.self.invariant.keys_fit, more, ap length c.insert.ensures.keys, c.insert.ensures.most, c.requires.room, ap (λ t. t.spare) c.self.view_is);
       rows_fit = omega (arith, c.self.invariant.rows_fit, c.insert_reserved-key.ensures.len, c.insert_reserved-key.ensures.capacity, c.requires.room, ap (λ t. t.spare) c.self.view_is);
     }
 
@@ -27,8 +30,8 @@ returns-clause-rows c =
     let s = c.self.inside in
     let key = c.insert_reserved-key.result in
     let new = c.insert_reserved-key.new.self in
-    let lacks = lacks_new s.rows s.order.items key c.self.invariant.held c.insert_reserved-key.ensures.was_vacant in
-    let within : c.args.place ≤ length s.order.items = omega (arith, c.requires.within, len_is s _ c.self.view_is c.self.invariant, s.order.ok.0) in
-    ap (λ ks. rows_at new ks) c.insert_reserved.ensures.items
-    ∙ (rows-insert s.rows new key c.args.row c.insert_reserved-key.ensures.updates s.order.items c.args.place within c.self.invariant.held lacks
+    let lacks = lacks_new s.rows s.order.keys key c.self.invariant.held c.insert_reserved-key.ensures.was_vacant in
+    let within : c.args.place ≤ length s.order.keys = omega (arith, c.requires.within, len_is s _ c.self.view_is c.self.invariant) in
+    ap (λ ks. rows_at new ks) c.insert.ensures.keys
+    ∙ (rows-insert s.rows new key c.args.row c.insert_reserved-key.ensures.updates s.order.keys c.args.place within c.self.invariant.held lacks
     ∙ ap (λ t. insert t.rows c.args.place c.args.row) c.self.view_is)
