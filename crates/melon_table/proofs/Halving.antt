@@ -55,7 +55,7 @@ fewer n start left left' now some small cost d h =
     (is.0, is.2, omega (arith, was.2, is.1))
 
 -- two rows at one place are one
-same_row : (rows : List Raw) (i j : ℕ) (r s : Raw) → i ≡ j → slice_get rows i ≡ Some s → slice_get rows j ≡ Some r → s ≡ r
+pub same_row : (rows : List Raw) (i j : ℕ) (r s : Raw) → i ≡ j → slice_get rows i ≡ Some s → slice_get rows j ≡ Some r → s ≡ r
 same_row rows i j r s e found here = let both : Some s ≡ Some r = sym found ∙ ap (slice_get rows) e ∙ here in cc
 
 reversed : (o p : Ordering) → o ≡ ordering_reverse p → p ≡ Less → o ≡ Greater

@@ -5,6 +5,7 @@ pub mod ById
 pub mod Placed
 pub mod Empty
 pub mod Stock
-pub mod Unsynced
+pub mod Dirtied
 pub mod Joined
 pub mod Counted
+pub mod DirtyBelow

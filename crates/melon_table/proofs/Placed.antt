@@ -25,6 +25,12 @@ module _ (id : List ℕ) (rows : List Raw) (place : ℕ) (asc : is_ascending row
   here : Around id rows (take place rows) (drop (suc place) rows) (Some h.0)
   here = stands id rows place h.0 asc h.1 h.2
 
+  pub below_here : below id rows ≡ take place rows
+  below_here = here.lower
+
+  pub stands_within : place < length rows
+  stands_within = slice_get_within rows place h.0 h.1
+
   -- the row that stands there
   pub found : (x : Raw) → slice_get rows place ≡ Some x → Some x ≡ at_id id rows
   found x e = sym e ∙ (h.1 ∙ sym here.found)
@@ -38,6 +44,9 @@ module _ (id : List ℕ) (rows : List Raw) (place : ℕ) (asc : is_ascending row
 module _ (id : List ℕ) (rows : List Raw) (place : ℕ) (h : IsPlace id rows (Err place)) where
   there : Around id rows (take place rows) (drop place rows) None
   there = goes id rows place h.0 h.1 h.2
+
+  pub below_there : below id rows ≡ take place rows
+  below_there = there.lower
 
   pub absent : None ≡ at_id id rows
   absent = sym there.found

@@ -10,14 +10,14 @@ use Rattle.melon_table.specs.declared.shelf.Shelf.TheInside.{Inside}
 use Rattle.melon_table.specs.Seen.{SeenShelf}
 use Rattle.melon_table.specs.Stocked.{rows_at, AllHeld, Lacks, AreApart, shelf_in, KeepsStock}
 
-had : (o : Option Raw) → is_some o ≡ true → (r : Raw) × (o ≡ Some r)
+pub had : (o : Option Raw) → is_some o ≡ true → (r : Raw) × (o ≡ Some r)
 had None h = cc
 had (Some r) h = (r, refl)
 
 -- ---- what is read
 
 module _ (rows : Slab Raw) where
-  first : (k : ℕ) (ks : List ℕ) (r : Raw) → get rows k ≡ Some r → rows_at rows (k ∷ ks) ≡ r ∷ rows_at rows ks
+  pub first : (k : ℕ) (ks : List ℕ) (r : Raw) → get rows k ≡ Some r → rows_at rows (k ∷ ks) ≡ r ∷ rows_at rows ks
   first k ks r e = ap (λ o. cons_option o (rows_at rows ks)) e
 
   pub length-rows_at : (keys : List ℕ) → AllHeld rows keys → length (rows_at rows keys) ≡ length keys
@@ -86,7 +86,7 @@ apart-remove (k ∷ ks) zero apart = apart.1
 apart-remove (k ∷ ks) (suc place) apart = (all_remove (λ x. x ≢ k) ks place apart.0, apart-remove ks place apart.1)
 
 -- a key that was taken out stands nowhere
-lacks-remove : (keys : List ℕ) (place key : ℕ) → AreApart keys → slice_get keys place ≡ Some key → Lacks (remove keys place) key
+pub lacks-remove : (keys : List ℕ) (place key : ℕ) → AreApart keys → slice_get keys place ≡ Some key → Lacks (remove keys place) key
 lacks-remove [] place key apart e = cc
 lacks-remove (k ∷ ks) zero key apart e = let same : k ≡ key = cc in subst (λ (x : ℕ). Lacks ks x) same apart.0
 lacks-remove (k ∷ ks) (suc place) key apart e = (λ same. apart_from ks place key k apart.0 e (sym same), lacks-remove ks place key apart.1 e)

@@ -197,6 +197,7 @@ impl Keys {
         ensures ok { OnOk result (length self.new.keys + n ≤ self.new.most) }
         ensures keys { self.new.keys ≡ self.old.keys }
         ensures later { self.old.most ≤ self.new.most }
+        ensures fits { self.new.most ≤ 18446744073709551615 }
     {
         let most = self.len().saturating_add(n);
         if self.most < most {

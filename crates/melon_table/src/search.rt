@@ -1,13 +1,12 @@
 //! Finding an id among rows that ascend.
-ghost use Rattle.std.specs.Prelude.{◌≡◌, ◌+◌, ◌<◌, length, true, slice_get};
-ghost use Rattle.std.specs.Option.{option_copied};
-ghost use Rattle.melon_raw.specs.Rows.{is_ascending};
+ghost use Rattle.std.specs.Prelude.{◌≡◌, ◌≢◌, ◌+◌, ◌<◌, ◌≤◌, length, take, slice_get, Some, true};
+ghost use Rattle.melon_raw.specs.Rows.{is_ascending, below};
 ghost use Rattle.melon_table.specs.Places.{IsPlace, FewSteps};
 ghost use Rattle.melon_table.specs.Dirty.{is_dirty, dirty_rows};
 
-use crate::shelf::Shelf;
+use crate::shelf::{Shelf, is_dirty};
 use melon_raw::steps::new_counter;
-use melon_raw::{Id, Raw, Status, Steps};
+use melon_raw::{Id, Raw, Steps};
 use std::cmp::Ordering;
 use std::marker::Brand;
 use std::sync::ledger::{Blank, Ledger};
@@ -51,28 +50,51 @@ pub fn find_place(rows: &Shelf, id: &Id) -> Result<usize, usize>
     place_counted::<Brand>(new_counter(), rows, id)
 }
 
-fn is_dirty(row: &Raw) -> bool
-    ensures { result ≡ is_dirty row.now.status }
+/// How many of the rows that aren't synced have an id below this one.
+fn dirty_below(rows: &Shelf, id: &str) -> usize
+    requires { is_ascending rows.now.rows ≡ true }
+    ensures { result ≡ length (below id.now (dirty_rows rows.now.rows)) }
 {
-    match row.status {
-        Status::Created | Status::Updated | Status::Deleted => true,
-        Status::Synced => false,
-    }
-}
-
-/// The row with this many rows before it that aren't synced, of those that aren't.
-pub fn nth_dirty(rows: &Shelf, i: usize) -> Option<&Raw>
-    ensures { option_copied result ≡ slice_get (dirty_rows rows.now.rows) i }
-{
-    let mut before = i;
-    for place in 0..rows.len() {
-        let row = rows.at(place);
-        if is_dirty(row) {
-            if before == 0 {
-                return Some(row);
-            }
-            before -= 1;
+    let mut low = 0;
+    let mut high = rows.dirty_len();
+    while low < high {
+        let middle = low + (high - low) / 2;
+        if rows.dirty_at(middle).id.as_str().cmp(id).is_lt() {
+            low = middle + 1;
+        } else {
+            high = middle;
         }
     }
-    None
+    low
+}
+
+/// How many of the rows before the place of an id aren't synced.
+pub fn dirty_before(rows: &Shelf, id: &str, place: usize) -> usize
+    requires ascending { is_ascending rows.now.rows ≡ true }
+    requires within { place ≤ length rows.now.rows }
+    requires place { below id.now rows.now.rows ≡ take place rows.now.rows }
+    ensures { result ≡ length (dirty_rows (take place rows.now.rows)) }
+{
+    let dirty = rows.dirty_len();
+    if place == rows.len() {
+        return dirty;
+    }
+    if dirty == rows.len() {
+        return place;
+    }
+    dirty_below(rows, id)
+}
+
+/// How many of the rows before a place aren't synced, where the row there or the one that is to take its stead is synced and
+/// the other isn't. Else it is of no use.
+pub fn before_replaced(rows: &Shelf, place: usize, row: &Raw) -> usize
+    requires ascending { is_ascending rows.now.rows ≡ true }
+    requires within { place < length rows.now.rows }
+    requires place { below row.now.id rows.now.rows ≡ take place rows.now.rows }
+    ensures { (was : Raw) → slice_get rows.now.rows place ≡ Some was → is_dirty was.status ≢ is_dirty row.now.status → result ≡ length (dirty_rows (take place rows.now.rows)) }
+{
+    if is_dirty(rows.at(place)) == is_dirty(row) {
+        return 0;
+    }
+    dirty_before(rows, row.id.as_str(), place)
 }

@@ -1,9 +1,12 @@
-//! Rows at places. Each row stays where it was first put, and only the keys to them move.
-ghost use Rattle.std.specs.Prelude.{◌≡◌, ◌+◌, ◌<◌, ◌≤◌, [], length, slice_get, slice_set, Some, OnOk, OnErr};
+//! Rows at places. Each row stays where it was first put, and only the keys to them move. The keys of the rows that aren't
+//! synced stand in a list of their own, in the same order.
+ghost use Rattle.std.specs.Prelude.{◌≡◌, ◌≢◌, ◌+◌, ◌<◌, ◌≤◌, [], true, false, length, take, slice_get, slice_set, Some, OnOk, OnErr};
 ghost use Rattle.std.specs.List.{insert, remove};
+ghost use Rattle.melon_table.specs.Dirty.{is_dirty, dirty_rows};
+ghost use Rattle.melon_table.specs.Stocked.{marked};
 
 use crate::keys::Keys;
-use melon_raw::Raw;
+use melon_raw::{Raw, Status};
 use slab::Slab;
 use std::alloc::{AllocError, Global};
 use std::marker::Model;
@@ -15,6 +18,8 @@ pub struct Shelf {
     rows: Slab<Raw>,
     // The key of each row, by place.
     order: Keys,
+    // The keys of the rows that aren't synced.
+    dirty: Keys,
     // For how many more rows there is room.
     spare: usize,
 }
@@ -31,6 +36,31 @@ impl Model for Shelf {
     ghost invariant = { KeepsStock };
 }
 
+/// Whether the server doesn't know the row as it is.
+pub fn is_dirty(row: &Raw) -> bool
+    ensures { result ≡ is_dirty row.now.status }
+{
+    match row.status {
+        Status::Created | Status::Updated | Status::Deleted => true,
+        Status::Synced => false,
+    }
+}
+
+/// Has a key stand among those of rows that aren't synced, behind so many of them, just where it is one of them now.
+fn mark(dirty: &mut Keys, was: bool, is: bool, before: usize, key: usize)
+    requires room { was ≡ false → is ≡ true → (before ≤ length dirty.old.keys) × (length dirty.old.keys < dirty.old.most) }
+    requires there { was ≡ true → is ≡ false → before < length dirty.old.keys }
+    ensures keys { dirty.new.keys ≡ marked was is before key dirty.old.keys }
+    ensures most { dirty.new.most ≡ dirty.old.most }
+{
+    if is && !was {
+        dirty.insert(before, key);
+    }
+    if was && !is {
+        let _key = dirty.remove(before);
+    }
+}
+
 impl Shelf {
     /// A shelf without rows.
     pub fn new(alloc: Global) -> Shelf
@@ -39,6 +69,7 @@ impl Shelf {
         Shelf {
             rows: Slab::new(alloc),
             order: Keys::new(alloc),
+            dirty: Keys::new(alloc),
             spare: 0,
         }
     }
@@ -51,6 +82,7 @@ impl Shelf {
     {
         if self.spare < n {
             self.order.room(n)?;
+            self.dirty.room(self.order.len().saturating_add(n))?;
             self.rows.reserve(n)?;
             self.spare = n;
         }
@@ -72,37 +104,64 @@ impl Shelf {
         &self.rows[self.order.at(place)]
     }
 
-    /// Puts a row in the stead of the one at a place, and gives that one back.
-    pub fn replace(&mut self, place: usize, row: Raw) -> Raw
-        requires { place < length self.old.rows }
+    /// How many rows aren't synced.
+    pub fn dirty_len(&self) -> usize
+        ensures { result ≡ length (dirty_rows self.now.rows) }
+    {
+        self.dirty.len()
+    }
+
+    /// The row with this many before it, of those that aren't synced.
+    pub fn dirty_at(&self, i: usize) -> &Raw
+        requires { i < length (dirty_rows self.now.rows) }
+        ensures { slice_get (dirty_rows self.now.rows) i ≡ Some result.now }
+    {
+        &self.rows[self.dirty.at(i)]
+    }
+
+    /// Puts a row in the stead of the one at a place, and gives that one back. Where one of them is synced and the other
+    /// isn't, so many rows before the place aren't synced.
+    pub fn replace(&mut self, place: usize, before: usize, row: Raw) -> Raw
+        requires within { place < length self.old.rows }
+        requires before { (was : Raw) → slice_get self.old.rows place ≡ Some was → is_dirty was.status ≢ is_dirty row.status → before ≡ length (dirty_rows (take place self.old.rows)) }
         ensures was { slice_get self.old.rows place ≡ Some result }
         ensures rows { self.new.rows ≡ slice_set self.old.rows place row }
         ensures spare { self.new.spare ≡ self.old.spare }
     {
         let key = self.order.at(place);
-        mem::replace(&mut self.rows[key], row)
+        let is = is_dirty(&row);
+        let old = mem::replace(&mut self.rows[key], row);
+        mark(&mut self.dirty, is_dirty(&old), is, before, key);
+        old
     }
 
-    /// Puts a row before that of a place, or after all. It takes no memory.
-    pub fn insert(&mut self, place: usize, row: Raw)
+    /// Puts a row before that of a place, or after all. Where it isn't synced, so many rows before the place aren't
+    /// synced. It takes no memory.
+    pub fn insert(&mut self, place: usize, before: usize, row: Raw)
         requires within { place ≤ length self.old.rows }
         requires room { 0 < self.old.spare }
+        requires before { is_dirty row.status ≡ true → before ≡ length (dirty_rows (take place self.old.rows)) }
         ensures rows { self.new.rows ≡ insert self.old.rows place row }
         ensures spare { self.new.spare + 1 ≡ self.old.spare }
     {
+        let is = is_dirty(&row);
         let key = self.rows.insert_reserved(row);
         self.order.insert(place, key);
+        mark(&mut self.dirty, false, is, before, key);
         self.spare -= 1;
     }
 
-    /// Takes the row at a place out.
-    pub fn remove(&mut self, place: usize) -> Raw
-        requires { place < length self.old.rows }
+    /// Takes the row at a place out. Where it isn't synced, so many rows before the place aren't synced.
+    pub fn remove(&mut self, place: usize, before: usize) -> Raw
+        requires within { place < length self.old.rows }
+        requires before { (was : Raw) → slice_get self.old.rows place ≡ Some was → is_dirty was.status ≡ true → before ≡ length (dirty_rows (take place self.old.rows)) }
         ensures was { slice_get self.old.rows place ≡ Some result }
         ensures rows { self.new.rows ≡ remove self.old.rows place }
         ensures spare { self.new.spare ≡ self.old.spare }
     {
         let key = self.order.remove(place);
-        self.rows.remove(key)
+        let row = self.rows.remove(key);
+        mark(&mut self.dirty, is_dirty(&row), false, before, key);
+        row
     }
 }

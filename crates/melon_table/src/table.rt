@@ -5,7 +5,7 @@ ghost use Rattle.melon_table.specs.Dirty.{dirty_rows};
 ghost use Rattle.melon_table.specs.Kept.{IsKept};
 ghost use Rattle.melon_table.specs.Places.{FewSteps};
 
-use crate::search::{find_place, nth_dirty, place_of};
+use crate::search::{before_replaced, dirty_before, find_place, place_of};
 use crate::shelf::Shelf;
 use melon_raw::{Id, Raw, Steps};
 use melon_schema::{ColumnSchema, List};
@@ -100,13 +100,11 @@ impl Table {
         ensures cost { MatchOption result (steps.new ≡ steps.old) (λ _. steps.new ≡ steps.old + 1) }
         ensures kept { IsKept self.now.columns self.now.rows }
     {
-        match nth_dirty(&self.rows, i) {
-            Some(row) => {
-                steps.tick();
-                Some(row)
-            }
-            None => None,
+        if i < self.rows.dirty_len() {
+            steps.tick();
+            return Some(self.rows.dirty_at(i));
         }
+        None
     }
 
     /// Puts a row in the place of the one with its id, and gives that one back. It takes no memory.
@@ -119,9 +117,13 @@ impl Table {
         ensures spare { MatchOption result (self.new.spare + 1 ≡ self.old.spare) (λ _. self.new.spare ≡ self.old.spare) }
     {
         match find_place(&self.rows, &row.id) {
-            Ok(place) => Some(self.rows.replace(place, row)),
+            Ok(place) => {
+                let before = before_replaced(&self.rows, place, &row);
+                Some(self.rows.replace(place, before, row))
+            }
             Err(place) => {
-                self.rows.insert(place, row);
+                let before = dirty_before(&self.rows, row.id.as_str(), place);
+                self.rows.insert(place, before, row);
                 None
             }
         }
@@ -135,7 +137,10 @@ impl Table {
         ensures spare { self.old.spare ≤ self.new.spare }
     {
         match find_place(&self.rows, id) {
-            Ok(place) => Some(self.rows.remove(place)),
+            Ok(place) => {
+                let before = dirty_before(&self.rows, id.as_str(), place);
+                Some(self.rows.remove(place, before))
+            }
             Err(_) => None,
         }
     }
