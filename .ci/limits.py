@@ -137,6 +137,22 @@ def filled():
     yield line("write", app="D", ops=creates(0)), "write D at 1"
 
 
-for part in (declared, opened, written, queued, observed, asked, filled):
+def journalled():
+    """Entries of a row that is long before and after, until the journal of the opening has too many bytes."""
+    posts = {"version": 1, "tables": [{"name": "posts", "columns": [{"name": "body", "type": "string"}, {"name": "title", "type": "string"}]}]}
+    yield line("close", app="D"), "close D"
+    yield line("open", app="E", schema=posts), "open E rows 0 last 0"
+    row = dict(body="x" * 65536, id="p1", title="", _changed="", _status="created")
+    size = len(json.dumps(row, separators=(",", ":")))
+    yield line("write", app="E", ops=[{"create": "posts", "id": "p1", "set": {"body": row["body"]}}]), "write E at 1"
+    update = line("write", app="E", ops=[{"update": "posts", "id": "p1", "set": {"title": ""}}])
+    count, taken = 1, size
+    while taken + 2 * size <= MOST_BYTES:
+        count, taken = count + 1, taken + 2 * size
+        yield update, "write E at %d" % count
+    yield update, "refused full 2 %d" % (taken + 2 * size)
+
+
+for part in (declared, opened, written, queued, observed, asked, filled, journalled):
     for given, printed in part():
         print(printed if sys.argv[1:] == ["text"] else json.dumps(given, separators=(",", ":")))

@@ -14,7 +14,9 @@ use Rattle.melon_log.specs.Laws.{NamesApart}
 use Rattle.melon_backend.specs.Backends.{SeenBackend, Plan, asked, open_plan}
 use Rattle.melon_backend.specs.Pushing.{push_plan}
 use Rattle.melon_backend.specs.Pushed.{IsPushed, IsVerdict}
-use Rattle.melon_backend.specs.Carried.{IsDone, IsDoneOnOk, Opens}
+use Rattle.melon_outside.specs.SeenKeeper.{SeenKeeper}
+use Rattle.melon_outside.specs.Asking.{IsDone, IsDoneOnOk}
+use Rattle.melon_backend.specs.Carried.{Opens}
 use Rattle.melon_backend.specs.Standing.{Stands, opened_log}
 use Rattle.melon_backend.specs.Keeps.{KeepsLog, KeepsOn, kept_after, log_after}
 use Rattle.melon_backend.proofs.OpenedRows.{open_plan-is}
@@ -56,12 +58,12 @@ module _ (g : Log) (b : SeenBackend) (t : ℕ) (c : wire.Changes) (s : Stands g 
 
 -- ---- an opening
 
-module _ (Before Now : Stores → Type 0) (name : List ℕ) (schema : SeenSchema) (apart : NamesApart schema.tables) where
-  pub opens_stands : (r : Result SeenBackend OpenFault) → Opens Before Now name schema r → IfOk r (λ b. Stands (opened_log b) b)
+module _ (before now : SeenKeeper) (name : List ℕ) (schema : SeenSchema) (apart : NamesApart schema.tables) where
+  pub opens_stands : (r : Result SeenBackend OpenFault) → Opens before now name schema r → IfOk r (λ b. Stands (opened_log b) b)
   opens_stands (Ok b) h = (opening_begins name schema h.0 (record { batch = asked (open_plan name schema h.0); after = b }) apart h.2.ordered h.1).stands
   opens_stands (Err f) h = tt
 
-  pub opens_keeps : (m : Stores) → Now m → (r : Result SeenBackend OpenFault) → Opens Before Now name schema r → IfOk r (λ b. KeepsLog (opened_log b) schema.version (m name))
+  pub opens_keeps : (m : Stores) → now.holds m → (r : Result SeenBackend OpenFault) → Opens before now name schema r → IfOk r (λ b. KeepsLog (opened_log b) schema.version (m name))
   opens_keeps m held (Ok b) h =
       let kept = h.0 in
       let plan : Plan = record { batch = asked (open_plan name schema kept); after = b } in

@@ -215,6 +215,9 @@ push-kind b t c e h =
 pub never_keeper : (b : SeenBackend) (t : ℕ) (c : Changes) → push_plan b t c ≡ Err KeeperFault → ⊥
 never_keeper b t c h = push-kind b t c KeeperFault h
 
+pub push_not_keepers : (f : PushFault) → IsOfPush f → f ≡ KeeperFault → ⊥
+push_not_keepers f of_push e = subst IsOfPush e of_push
+
 pub of_push : {X : Type 0} (r : Result X PushFault) (f : PushFault) → Fails Memory f r → (r ≡ Err KeeperFault → ⊥) → IsOfPush f
 of_push r (Future n) fails never = tt
 of_push r (UnknownName t n) fails never = tt

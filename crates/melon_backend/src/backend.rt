@@ -1,10 +1,11 @@
-ghost use Rattle.std.specs.Prelude.{◌≡◌, ◌<◌, [], ◌∷◌, length, map, get_or, true, false, IfOk, IfErr, OnOk, OnErr, MatchResult, None, Some, Ok};
+ghost use Rattle.std.specs.Prelude.{◌≡◌, ◌<◌, [], ◌∷◌, length, map, get_or, true, false, IfOk, IfErr, OnOk, OnErr, IsErrOf, MatchResult, None, Some, Ok};
 ghost use Rattle.std.specs.List.{AllByRecursion};
 ghost use Rattle.melon_schema.specs.Faults.{Gives, Fails};
 ghost use Rattle.melon_raw.specs.Rows.{table_at};
-ghost use Rattle.melon_outside.specs.Causes.{HasCauseOf};
-ghost use Rattle.melon_outside.specs.Kept.{batched};
-ghost use Rattle.melon_outside.specs.Keeping.{Stores, Committed, Leaves};
+ghost use Rattle.melon_outside.specs.Causes.{Rose};
+ghost use Rattle.melon_outside.specs.Keeping.{Stores};
+ghost use Rattle.melon_outside.specs.SeenKeeper.{Later};
+ghost use Rattle.melon_outside.specs.Asking.{Asks};
 ghost use Rattle.melon_wire.specs.Forms.{names_ascend};
 ghost use Rattle.melon_wire.specs.Keys.{are_apart};
 ghost use Rattle.melon_wire.specs.Sent.{names_something};
@@ -23,7 +24,7 @@ ghost use Rattle.melon_backend.specs.Pushed.{IsPushed, IsVerdict, IsOfKeeper, Is
 ghost use Rattle.melon_backend.specs.Standing.{Stands, opened_log};
 ghost use Rattle.melon_backend.specs.Keeps.{KeepsLog, KeepsOn, log_after};
 ghost use Rattle.melon_backend.specs.Ready.{CanBePut, CanBePutIfAny, IsPlanOf};
-ghost use Rattle.melon_backend.specs.Carried.{IsDoneOnOk, IsSoundly, IsOver, HoldsAsBefore, Opens};
+ghost use Rattle.melon_backend.specs.Carried.{Opens};
 
 use crate::body::rows_text;
 use crate::commit::commit_puts;
@@ -128,24 +129,12 @@ fn commit_any<K: Keeper>(
     key: &str,
     batch: &Option<KeptBatch>,
 ) -> Result<(), KeeperError>
-    ensures kept { (m : Stores) → K.holds keeper.new m → (was : Stores) × K.holds keeper.old was × IsDoneOnOk batch.now key.now result was m }
-    ensures cause { HasCauseOf KeeperError.Failed (K.faults keeper.old) (K.faults keeper.new) result }
-    ensures sound { IsSoundly (K.sound keeper.old) (K.sound keeper.new) (K.faults keeper.old) (K.faults keeper.new) KeeperError.Failed result }
+    ensures keeper { Asks batch.now key.now KeeperError.Failed result (K.seen keeper.old) (K.seen keeper.new) }
 {
     match batch {
         Some(batch) => keeper.commit(alloc, key, batch),
         None => Ok(()),
     }
-}
-
-/// What a keeper holds of a store, and that leaves it.
-fn load_kept<K: Keeper>(alloc: Global, keeper: &mut K, key: &str) -> Result<Kept, KeeperError>
-    ensures kept { IfOk result (λ kept. IsOver (K.holds keeper.old) (K.holds keeper.new) key.now kept None) }
-    ensures held { HoldsAsBefore (K.holds keeper.old) (K.holds keeper.new) }
-    ensures cause { HasCauseOf KeeperError.Failed (K.faults keeper.old) (K.faults keeper.new) result }
-    ensures sound { IsSoundly (K.sound keeper.old) (K.sound keeper.new) (K.faults keeper.old) (K.faults keeper.new) KeeperError.Failed result }
-{
-    keeper.load(alloc, key)
 }
 
 /// A backend over what is kept, and what is missing there.
@@ -187,12 +176,13 @@ impl Backend {
         name: &str,
         schema: AppSchema,
     ) -> Result<Backend, OpenFault>
-        ensures opens { Opens (K.holds keeper.old) (K.holds keeper.new) name.now schema result }
-        ensures cause { HasCauseOf OpenFault.KeeperFault (K.faults keeper.old) (K.faults keeper.new) result }
-        ensures sound { IsSoundly (K.sound keeper.old) (K.sound keeper.new) (K.faults keeper.old) (K.faults keeper.new) OpenFault.KeeperFault result }
+        ensures opens { Opens (K.seen keeper.old) (K.seen keeper.new) name.now schema result }
+        ensures later { Later (K.seen keeper.old) (K.seen keeper.new) }
+        ensures cause { IsErrOf result OpenFault.KeeperFault → Rose (K.seen keeper.old).faults (K.seen keeper.new).faults }
+        ensures never { (K.seen keeper.old).sound → IsErrOf result OpenFault.KeeperFault → ⊥ }
     {
         let copy = Text::new(alloc, name)?;
-        let kept = load_kept(alloc, keeper, name)?;
+        let kept = keeper.load(alloc, name)?;
         let laid = laid_out(alloc, copy, schema, kept)?;
         commit_any(alloc, keeper, name, &laid.1)?;
         let (backend, _) = laid;
@@ -207,11 +197,12 @@ impl Backend {
         name: &str,
         schema: AppSchema,
     ) -> Result<Backend, OpenFault>
-        ensures opens { Opens (K.holds keeper.old) (K.holds keeper.new) name.now schema result }
-        ensures cause { HasCauseOf OpenFault.KeeperFault (K.faults keeper.old) (K.faults keeper.new) result }
-        ensures sound { IsSoundly (K.sound keeper.old) (K.sound keeper.new) (K.faults keeper.old) (K.faults keeper.new) OpenFault.KeeperFault result }
+        ensures opens { Opens (K.seen keeper.old) (K.seen keeper.new) name.now schema result }
+        ensures later { Later (K.seen keeper.old) (K.seen keeper.new) }
+        ensures cause { IsErrOf result OpenFault.KeeperFault → Rose (K.seen keeper.old).faults (K.seen keeper.new).faults }
+        ensures never { (K.seen keeper.old).sound → IsErrOf result OpenFault.KeeperFault → ⊥ }
         ensures stands { NamesApart schema.tables → IfOk result (λ backend. Stands (opened_log backend) backend) }
-        ensures keeps { NamesApart schema.tables → (m : Stores) → K.holds keeper.new m → IfOk result (λ backend. KeepsLog (opened_log backend) schema.version (m name.now)) }
+        ensures keeps { NamesApart schema.tables → (m : Stores) → (K.seen keeper.new).holds m → IfOk result (λ backend. KeepsLog (opened_log backend) schema.version (m name.now)) }
     {
         Backend::open_kept(alloc, keeper, name, schema)
     }
@@ -344,10 +335,7 @@ impl Backend {
         ensures after { OnOk result (self.new ≡ with_push self.old planned.revision planned.puts.items) }
         ensures err { OnErr result (self.new ≡ self.old) }
         ensures fault { IfErr result IsOfKeeper }
-        ensures kept { (m : Stores) → K.holds keeper.new m → (was : Stores) × K.holds keeper.old was × Committed (batched planned.batch) self.old.name result was m }
-        ensures stops { Leaves (Some planned.batch) self.old.name (K.holds keeper.old) (K.may_leave keeper.new) }
-        ensures cause { HasCauseOf PushFault.KeeperFault (K.faults keeper.old) (K.faults keeper.new) result }
-        ensures sound { IsSoundly (K.sound keeper.old) (K.sound keeper.new) (K.faults keeper.old) (K.faults keeper.new) PushFault.KeeperFault result }
+        ensures keeper { Asks (Some planned.batch) self.old.name PushFault.KeeperFault result (K.seen keeper.old) (K.seen keeper.new) }
     {
         let Planned {
             batch,
@@ -374,10 +362,7 @@ impl Backend {
     ) -> Result<u64, PushFault>
         requires { names_ascend (λ t. t.table) changes.now.tables ≡ true }
         ensures pushed { IsPushed (push_plan self.old last changes.now) self.old self.new result }
-        ensures kept { (m : Stores) → K.holds keeper.new m → (was : Stores) × K.holds keeper.old was × IsDoneOnOk (asked (push_plan self.old last changes.now)) self.old.name result was m }
-        ensures stops { Leaves (asked (push_plan self.old last changes.now)) self.old.name (K.holds keeper.old) (K.may_leave keeper.new) }
-        ensures cause { HasCauseOf PushFault.KeeperFault (K.faults keeper.old) (K.faults keeper.new) result }
-        ensures sound { IsSoundly (K.sound keeper.old) (K.sound keeper.new) (K.faults keeper.old) (K.faults keeper.new) PushFault.KeeperFault result }
+        ensures keeper { Asks (asked (push_plan self.old last changes.now)) self.old.name PushFault.KeeperFault result (K.seen keeper.old) (K.seen keeper.new) }
     {
         match self.plan(alloc, last, changes)? {
             None => Ok(self.revision),
@@ -398,13 +383,10 @@ impl Backend {
     ) -> Result<u64, PushFault>
         requires { names_ascend (λ t. t.table) changes.now.tables ≡ true }
         ensures pushed { IsPushed (push_plan self.old last changes.now) self.old self.new result }
-        ensures kept { (m : Stores) → K.holds keeper.new m → (was : Stores) × K.holds keeper.old was × IsDoneOnOk (asked (push_plan self.old last changes.now)) self.old.name result was m }
-        ensures stops { Leaves (asked (push_plan self.old last changes.now)) self.old.name (K.holds keeper.old) (K.may_leave keeper.new) }
-        ensures cause { HasCauseOf PushFault.KeeperFault (K.faults keeper.old) (K.faults keeper.new) result }
-        ensures sound { IsSoundly (K.sound keeper.old) (K.sound keeper.new) (K.faults keeper.old) (K.faults keeper.new) PushFault.KeeperFault result }
+        ensures keeper { Asks (asked (push_plan self.old last changes.now)) self.old.name PushFault.KeeperFault result (K.seen keeper.old) (K.seen keeper.new) }
         ensures verdict { (g : Log) → Stands g self.old → IsVerdict (verdict g last changes.now) result }
         ensures stands { (g : Log) → Stands g self.old → Stands (log_after g changes.now result) self.new }
-        ensures keeps { (g : Log) → Stands g self.old → (m : Stores) → K.holds keeper.new m → (was : Stores) × K.holds keeper.old was × KeepsOn self.old.name self.old.schema.version g (log_after g changes.now result) was m }
+        ensures keeps { (g : Log) → Stands g self.old → (m : Stores) → (K.seen keeper.new).holds m → (was : Stores) × (K.seen keeper.old).holds was × KeepsOn self.old.name self.old.schema.version g (log_after g changes.now result) was m }
     {
         self.accept(alloc, keeper, last, changes)
     }

@@ -1,15 +1,12 @@
 //! Rows that are put into their tables, once the keeper has them.
 ghost use Rattle.std.specs.Prelude.{◌≡◌, ◌<◌, length, map, true, false, Some, OnOk, OnErr, IfErr};
 ghost use Rattle.std.specs.List.{AllByRecursion};
-ghost use Rattle.melon_outside.specs.Causes.{HasCauseOf};
-ghost use Rattle.melon_outside.specs.Kept.{batched};
-ghost use Rattle.melon_outside.specs.Keeping.{Stores, Committed, Leaves};
+ghost use Rattle.melon_outside.specs.Asking.{Asks};
 ghost use Rattle.melon_raw.specs.Rows.{is_key};
 ghost use Rattle.melon_wire.specs.Keys.{are_apart};
 ghost use Rattle.melon_backend.specs.Rows.{with_put, with_puts};
 ghost use Rattle.melon_backend.specs.Inside.{tables_rows, AreKept};
 ghost use Rattle.melon_backend.specs.Drafts.{key_put, is_ready_at, are_ready, IsPutWithin};
-ghost use Rattle.melon_backend.specs.Carried.{IsSoundly};
 ghost use Rattle.melon_backend.specs.Pushed.{IsOfKeeper};
 ghost use Rattle.melon_backend.specs.declared.put.Put.{Put};
 
@@ -83,10 +80,7 @@ fn ask<K: Keeper>(
     batch: &KeptBatch,
 ) -> Result<(), PushFault>
     ensures fault { IfErr result IsOfKeeper }
-    ensures kept { (m : Stores) → K.holds keeper.new m → (was : Stores) × K.holds keeper.old was × Committed (batched batch.now) key.now result was m }
-    ensures stops { Leaves (Some batch.now) key.now (K.holds keeper.old) (K.may_leave keeper.new) }
-    ensures cause { HasCauseOf PushFault.KeeperFault (K.faults keeper.old) (K.faults keeper.new) result }
-    ensures sound { IsSoundly (K.sound keeper.old) (K.sound keeper.new) (K.faults keeper.old) (K.faults keeper.new) PushFault.KeeperFault result }
+    ensures keeper { Asks (Some batch.now) key.now PushFault.KeeperFault result (K.seen keeper.old) (K.seen keeper.new) }
 {
     match keeper.commit(alloc, key, batch) {
         Ok(()) => Ok(()),
@@ -112,10 +106,7 @@ pub(crate) fn commit_puts<K: Keeper>(
     ensures rows { OnOk result (tables_rows tables.new.items ≡ with_puts (tables_rows tables.old.items) puts.items) }
     ensures same_rows { OnErr result (tables_rows tables.new.items ≡ tables_rows tables.old.items) }
     ensures fault { IfErr result IsOfKeeper }
-    ensures kept { (m : Stores) → K.holds keeper.new m → (was : Stores) × K.holds keeper.old was × Committed (batched batch.now) key.now result was m }
-    ensures stops { Leaves (Some batch.now) key.now (K.holds keeper.old) (K.may_leave keeper.new) }
-    ensures cause { HasCauseOf PushFault.KeeperFault (K.faults keeper.old) (K.faults keeper.new) result }
-    ensures sound { IsSoundly (K.sound keeper.old) (K.sound keeper.new) (K.faults keeper.old) (K.faults keeper.new) PushFault.KeeperFault result }
+    ensures keeper { Asks (Some batch.now) key.now PushFault.KeeperFault result (K.seen keeper.old) (K.seen keeper.new) }
 {
     ready_all(tables, alloc, puts.as_slice())?;
     ask(alloc, keeper, key, batch)?;

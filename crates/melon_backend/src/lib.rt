@@ -15,6 +15,5 @@ mod pull;
 mod put;
 mod refusal;
 mod table;
-mod tests;
 
 pub use backend::Backend;

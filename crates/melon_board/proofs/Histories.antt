@@ -7,11 +7,11 @@ use Rattle.melon_change.specs.Changes.{after_set}
 use Rattle.melon_change.specs.History.{IsEntry, IsLegal, replay}
 use Rattle.melon_board.specs.Stores.{SeenStore, with_entry, Continues}
 
-replay-more : (rows : Rows) (es : List Entry) (e : Entry) → replay rows (es ++ e ∷ []) ≡ after_set (replay rows es) e.set
+pub replay-more : (rows : Rows) (es : List Entry) (e : Entry) → replay rows (es ++ e ∷ []) ≡ after_set (replay rows es) e.set
 replay-more rows [] e = refl
 replay-more rows (d ∷ es) e = replay-more (after_set rows d.set) es e
 
-legal-more : (schema : List TableSchema) (rows : Rows) (es : List Entry) (e : Entry) → IsLegal schema rows es → IsEntry schema (replay rows es) e → IsLegal schema rows (es ++ e ∷ [])
+pub legal-more : (schema : List TableSchema) (rows : Rows) (es : List Entry) (e : Entry) → IsLegal schema rows es → IsEntry schema (replay rows es) e → IsLegal schema rows (es ++ e ∷ [])
 legal-more schema rows [] e legal entry = (entry, tt)
 legal-more schema rows (d ∷ es) e legal entry = (legal.0, legal-more schema (after_set rows d.set) es e legal.1 entry)
 

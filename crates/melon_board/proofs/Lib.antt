@@ -7,6 +7,8 @@ pub mod Stored
 pub mod Drafted
 pub mod Planned
 pub mod Histories
+pub mod SameRows
+pub mod Rewound
 pub mod Summed
 pub mod Written
 pub mod Stopped
@@ -21,3 +23,4 @@ pub mod KeptOn
 pub mod Reopened
 pub mod Again
 pub mod Continued
+pub mod Holding

@@ -1,5 +1,5 @@
--- How the answers of an opening follow from what was loaded.
-use Rattle.std.proofs.Common.{◌≡◌, ℕ, ◌≤◌, List, true, Option, Some, None, Result, Ok, Err, IfOk, refl, ap, sym, subst, ◌∙◌}
+-- How the answers of an opening follow from what was loaded, and from what the keeper answered.
+use Rattle.std.proofs.Common.{◌≡◌, ℕ, List, [], ◌∷◌, true, false, Option, Some, None, Result, Ok, Err, inl, inr, refl, ap, sym, subst, ◌∙◌}
 use Rattle.melon_schema.specs.Faults.{Fails}
 use Rattle.melon_schema.specs.Seen.{SeenSchema}
 use Rattle.melon_outside.specs.declared.kept.Kept.{Kept}
@@ -8,58 +8,56 @@ use Rattle.melon_outside.specs.declared.kept.OpenFault.{OpenFault}
 use Rattle.melon_outside.specs.declared.kept.OpenFault.TheVariants.{BadRow, Version, Full, KeeperFault, Memory}
 use Rattle.melon_outside.specs.declared.keeper.KeeperError.{KeeperError}
 use Rattle.melon_outside.specs.declared.keeper.KeeperError.TheVariants as keeper
-use Rattle.melon_outside.specs.Kept.{batched, is_in_order}
-use Rattle.melon_outside.specs.Keeping.{Stores, AreSame, Changes, open_fault_of}
+use Rattle.melon_outside.specs.Keeping.{open_fault_of}
+use Rattle.melon_outside.specs.SeenKeeper.{SeenKeeper, Answered, Loads}
+use Rattle.melon_outside.specs.Asking.{IsOver, Asks, HoldsAsBefore, done_of}
+use Rattle.melon_outside.proofs.SeenKeepers.{answered_none, answered_more, holds_refl, holds_kept, holds_as_before, load_over, over_done}
 use Rattle.melon_board.specs.Stores.{SeenStore, store_key}
 use Rattle.melon_board.specs.Plans.{Plan, asked}
 use Rattle.melon_board.specs.Opening.{open_plan}
-use Rattle.melon_board.specs.Carried.{IsDone, IsDoneOnOk, IsOver, HoldsAsBefore, Opens}
+use Rattle.melon_board.specs.Opened.{IsOfKept}
+use Rattle.melon_board.specs.Carried.{Opens}
 
-pub untouched : (Holds : Stores → Type 0) → HoldsAsBefore Holds Holds
-untouched Holds m h = (m, h, λ s. refl)
+-- memory ran out before the keeper was asked
+pub opens_nothing : (s : SeenKeeper) (name : List ℕ) (schema : SeenSchema) → Opens s s name schema (Err Memory)
+opens_nothing s name schema = (holds_refl s, inl (answered_none s))
 
-pub load_over : (Before Now : Stores → Type 0) (store : List ℕ) (r : Result Kept KeeperError) → IfOk r (λ kept. is_in_order kept ≡ true) → ((m : Stores) → Now m → Before m) → ((m : Stores) → Now m → IfOk r (λ kept. kept ≡ m store)) → IfOk r (λ kept. IsOver Before Now store kept None)
-load_over Before Now store (Ok kept) ordered held found = record { ordered = ordered; told = λ m h. (m, held m h, found m h, λ s. refl) }
-load_over Before Now store (Err e) ordered held found = tt
+-- the load came to nothing
+pub opens_loading : (before now : SeenKeeper) (key name : List ℕ) (schema : SeenSchema) (e : KeeperError) → Loads key (Err e) before now → Opens before now name schema (Err (open_fault_of e))
+opens_loading before now key name schema keeper.Memory loads = (holds_kept before now loads.kept, inl loads.answered)
+opens_loading before now key name schema keeper.Failed loads = inl (holds_kept before now loads.kept, loads.answered)
 
-pub load_held : (Before Now : Stores → Type 0) → ((m : Stores) → Now m → Before m) → HoldsAsBefore Before Now
-load_held Before Now held m h = (m, held m h, λ s. refl)
+-- what was loaded is refused, or memory ran out over it
+pub opens_fault : (before now : SeenKeeper) (name : List ℕ) (schema : SeenSchema) (kept : Kept) (f : OpenFault) → Fails Memory f (open_plan name schema kept) → IsOfKept f → Loads (store_key name) (Ok kept) before now → Opens before now name schema (Err f)
+opens_fault before now name schema kept (BadRow table id) fails of_kept loads = (kept, fails (λ e. cc), load_over (store_key name) kept before now loads, loads.answered)
+opens_fault before now name schema kept (Version stored) fails of_kept loads = (kept, fails (λ e. cc), load_over (store_key name) kept before now loads, loads.answered)
+opens_fault before now name schema kept (Full bytes) fails of_kept loads = (kept, fails (λ e. cc), load_over (store_key name) kept before now loads, loads.answered)
+opens_fault before now name schema kept KeeperFault fails of_kept loads = absurd of_kept
+opens_fault before now name schema kept Memory fails of_kept loads = (holds_kept before now loads.kept, inr loads.answered)
 
-chained : (batch : Option KeptBatch) (store : List ℕ) (was mid m : Stores) → AreSame mid was → IsDone batch store mid m → IsDone batch store was m
-chained None store was mid m same done = λ s. done s ∙ same s
-chained (Some batch) store was mid m same done = (done.0 ∙ ap (batched batch) (same store), λ other apart. done.1 other apart ∙ same other)
+module _ (before mid now : SeenKeeper) (name : List ℕ) (schema : SeenSchema) (kept : Kept) (batch : Option KeptBatch) (store : SeenStore) (plan : open_plan name schema kept ≡ Ok (record { batch = batch; after = store })) (loads : Loads (store_key name) (Ok kept) before mid) where
+  is_asked : asked (open_plan name schema kept) ≡ batch
+  is_asked = ap (λ (p : Result Plan OpenFault). asked p) plan
 
-module _ (Before Mid Now : Stores → Type 0) where
-  pub over_done : (store : List ℕ) (kept : Kept) (batch : Option KeptBatch) → IsOver Before Mid store kept None → ((m : Stores) → Now m → (mid : Stores) × Mid mid × IsDone batch store mid m) → IsOver Before Now store kept batch
-  over_done store kept batch over done = record {
-    ordered = over.ordered;
-    told = λ m h.
-        let last = done m h in
-        let first = over.told last.0 last.1 in
-        (first.0, first.1, first.2, chained batch store first.0 last.0 m first.3 last.2);
-  }
+  -- what is missing wasn't kept
+  pub opens_keeping : (e : KeeperError) → Asks {T = Unit {0}} batch (store_key name) keeper.Failed (Err e) mid now → Opens before now name schema (Err (open_fault_of e))
+  opens_keeping keeper.Memory asks =
+      (holds_as_before before mid now (holds_kept before mid loads.kept) asks.kept, inr (answered_more before mid now (true ∷ []) [] loads.answered (asks.other (λ e. cc))))
+  opens_keeping keeper.Failed asks =
+      let failed = asks.failed refl in
+      inr (
+        kept,
+        failed.0.0,
+        is_asked ∙ failed.0.1,
+        over_done before mid now (store_key name) kept None (load_over (store_key name) kept before mid loads) asks.kept,
+        answered_more before mid now (true ∷ []) (false ∷ []) loads.answered failed.1,
+      )
 
-  pub held_on : HoldsAsBefore Before Mid → HoldsAsBefore Mid Now → HoldsAsBefore Before Now
-  held_on first second m h =
-      let last = second m h in
-      let old = first last.0 last.1 in
-      (old.0, old.1, λ s. last.2 s ∙ old.2 s)
-
-pub opens_keeper : (Before Now : Stores → Type 0) (name : List ℕ) (schema : SeenSchema) (e : KeeperError) → HoldsAsBefore Before Now → Opens Before Now name schema (Err (open_fault_of e))
-opens_keeper Before Now name schema keeper.Memory held = held
-opens_keeper Before Now name schema keeper.Failed held = held
-
-pub opens_fault : (Before Now : Stores → Type 0) (name : List ℕ) (schema : SeenSchema) (kept : Kept) (f : OpenFault) → Fails Memory f (open_plan name schema kept) → IsOver Before Now (store_key name) kept None → HoldsAsBefore Before Now → Opens Before Now name schema (Err f)
-opens_fault Before Now name schema kept (BadRow table id) fails over held = (kept, fails (λ e. cc), over)
-opens_fault Before Now name schema kept (Version stored) fails over held = (kept, fails (λ e. cc), over)
-opens_fault Before Now name schema kept (Full bytes) fails over held = (kept, fails (λ e. cc), over)
-opens_fault Before Now name schema kept KeeperFault fails over held = held
-opens_fault Before Now name schema kept Memory fails over held = held
-
-pub opens_ok : (Before Now : Stores → Type 0) (name : List ℕ) (schema : SeenSchema) (kept : Kept) (batch : Option KeptBatch) (store : SeenStore) → open_plan name schema kept ≡ Ok (record { batch = batch; after = store }) → IsOver Before Now (store_key name) kept batch → Opens Before Now name schema (Ok store)
-opens_ok Before Now name schema kept batch store plan over =
-    let is : asked (open_plan name schema kept) ≡ batch = ap (λ (p : Result Plan OpenFault). asked p) plan in (
-      kept,
-      plan ∙ ap (λ (b : Option KeptBatch). let p : Result Plan OpenFault = Ok (record { batch = b; after = store }) in p) (sym is),
-      subst (λ (b : Option KeptBatch). IsOver Before Now (store_key name) kept b) (sym is) over,
-    )
+  -- all was kept
+  pub opens_ok : Asks {T = Unit {0}} {E = KeeperError} batch (store_key name) keeper.Failed (Ok tt) mid now → Opens before now name schema (Ok store)
+  opens_ok asks = (
+    kept,
+    plan ∙ ap (λ (b : Option KeptBatch). let p : Result Plan OpenFault = Ok (record { batch = b; after = store }) in p) (sym is_asked),
+    subst (λ (b : Option KeptBatch). IsOver before now (store_key name) kept b) (sym is_asked) (over_done before mid now (store_key name) kept batch (load_over (store_key name) kept before mid loads) asks.kept),
+    subst (λ (b : Option KeptBatch). Answered (true ∷ done_of b) before now) (sym is_asked) (answered_more before mid now (true ∷ []) (done_of batch) loads.answered asks.done),
+  )

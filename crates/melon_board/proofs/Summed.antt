@@ -18,11 +18,12 @@ use Rattle.melon_change.proofs.Legal.{batches}
 use Rattle.melon_table.proofs.ById.{Fits-at_id}
 use Rattle.melon_change.specs.declared.history.Entry.{Entry}
 use Rattle.melon_change.specs.Changes.{columns_at, after_set}
-use Rattle.melon_change.specs.History.{AreChanges, IsEntry}
+use Rattle.melon_change.specs.History.{AreChanges, IsEntry, IsLegal, replay}
 use Rattle.melon_board.specs.declared.store.Store.TheInside.{Inside}
 use Rattle.melon_board.specs.declared.draft.Draft.{Draft}
-use Rattle.melon_board.specs.Boards.{SeenBoard, are_within, AreNow}
-use Rattle.melon_board.specs.Stores.{SeenStore, with_entry, Continues}
+use Rattle.melon_board.specs.Boards.{SeenBoard, are_within, AreNow, rewound, IsOneHistory, IsNext}
+use Rattle.melon_board.specs.Stores.{SeenStore, with_entry, opening_of, Continues, KeepsHistory}
+use Rattle.melon_board.proofs.Rewound.{opening_same}
 use Rattle.melon_board.specs.Sizes.{stored_bytes, journal_bytes, before_bytes, after_bytes}
 use Rattle.melon_board.specs.Batches.{kept_batch}
 use Rattle.melon_board.specs.Drafts.{no_draft, drafted}
@@ -92,19 +93,51 @@ module _ (s : Inside) (store : SeenStore) (view : store_in s ≡ store) (sums : 
       subst (λ (x : SeenStore). Sized x.schema.tables x.rows x.entries e s.stored s.journal d) view
       (sized_inside d (is ∙ ap (λ (cs : List Change). drafted s.schema.tables no_draft cs) set_is))
 
+  -- with the entry undone too, the rows are those of the opening
+  back : (board : SeenBoard) → IsNext (columns_of s.board.tables) (rows_of s.board.tables) e → rows_of board.tables ≡ after_set (rows_of s.board.tables) e.set → board.entries ≡ s.board.entries ++ e ∷ [] → rewound (rows_of board.tables) board.entries ≡ rewound (rows_of s.board.tables) s.board.entries
+  back board next rows entries = ap (rewound (rows_of board.tables)) entries ∙ opening_same (columns_of s.board.tables) (rows_of s.board.tables) e next s.board.entries (rows_of board.tables) rows
+
   -- the board with the entry, and the new sums
-  pub summed : (board : SeenBoard) (stored journal : ℕ) → columns_of board.tables ≡ columns_of s.board.tables → rows_of board.tables ≡ after_set (rows_of s.board.tables) e.set → board.entries ≡ s.board.entries ++ e ∷ []
+  pub summed : (board : SeenBoard) (stored journal : ℕ) → IsOneHistory board → board.opening ≡ s.board.opening → IsNext (columns_of s.board.tables) (rows_of s.board.tables) e → columns_of board.tables ≡ columns_of s.board.tables → rows_of board.tables ≡ after_set (rows_of s.board.tables) e.set → board.entries ≡ s.board.entries ++ e ∷ []
       → stored ≡ stored_bytes store.schema.tables (after_set store.rows e.set) → journal ≡ journal_bytes store.schema.tables (store.entries ++ e ∷ [])
       → IsSummed (record { name = s.name; schema = s.schema; board = board; last = s.last; stored = stored; journal = journal })
-  summed board stored journal columns rows entries stored_is journal_is =
+  summed board stored journal history opening next columns rows entries stored_is journal_is =
       let stored_in : stored_bytes store.schema.tables (after_set store.rows e.set) ≡ stored_bytes s.schema.tables (after_set (rows_of s.board.tables) e.set) = ap (λ (x : SeenStore). stored_bytes x.schema.tables (after_set x.rows e.set)) (sym view) in
       let journal_in : journal_bytes store.schema.tables (store.entries ++ e ∷ []) ≡ journal_bytes s.schema.tables (s.board.entries ++ e ∷ []) = ap (λ (x : SeenStore). journal_bytes x.schema.tables (x.entries ++ e ∷ [])) (sym view) in
       record {
+        sound = sums.sound;
+        history = history;
+        opening = opening ∙ (sums.opening ∙ sym (back board next rows entries));
         columns = columns ∙ sums.columns;
         kept = subst (λ (q : Rows). AreKept s.schema.tables q) (sym rows) (kept-after_set s.schema.tables (rows_of s.board.tables) e.set now_inside sums.kept);
         stored = stored_is ∙ (stored_in ∙ ap (stored_bytes s.schema.tables) (sym rows));
         journal = journal_is ∙ (journal_in ∙ ap (journal_bytes s.schema.tables) (sym entries));
       }
+
+-- ---- one legal history
+
+-- an entry of the store is one that its board may have next
+pub next_of_board : (s : Inside) (store : SeenStore) → store_in s ≡ store → IsSummed s → (e : Entry) → IsEntry store.schema.tables store.rows e → IsNext (columns_of s.board.tables) (rows_of s.board.tables) e
+next_of_board s store view sums e entry = record {
+  schema = s.schema.tables;
+  declared = sym sums.columns;
+  kept = sums.kept;
+  entry = subst (λ (x : SeenStore). IsEntry x.schema.tables x.rows e) (sym view) entry;
+}
+
+-- the journal is one legal history from the opening rows
+pub continues_now : (s : Inside) → IsSummed s → Continues (opening_of (store_in s)) (store_in s)
+continues_now s sums = record {
+  legal = subst (λ (o : Rows). IsLegal s.schema.tables o s.board.entries) sums.opening (sums.history.legal s.schema.tables (sym sums.columns));
+  replayed = ap (λ (o : Rows). replay o s.board.entries) (sym sums.opening) ∙ sums.history.replayed;
+}
+
+-- the same history, before and after
+pub keeps_history : (s new : Inside) (store : SeenStore) → store_in s ≡ store → IsSummed s → IsSummed new → new.board.opening ≡ s.board.opening → KeepsHistory store (store_in new)
+keeps_history s new store view sums later same = record {
+  opening = sym later.opening ∙ (same ∙ (sums.opening ∙ ap opening_of view));
+  history = continues_now new later;
+}
 
 -- stores with the same rows and entries
 same_parts : (name : List ℕ) (schema : SeenSchema) (last : ℕ) (rows was : Rows) (entries old : List Entry) → rows ≡ was → entries ≡ old

@@ -1,22 +1,57 @@
--- What contracts see of a board, and what an entry to be installed is.
+-- What contracts see of a board: one legal history, and what an entry to be installed is.
 use Rattle.std.specs.Prelude.{◌≡◌, ℕ, ◌+◌, ◌<◌, ◌≤◌, List, [], ◌∷◌, map, get_or, nat_lt, Bool, true, false, ◌&&◌, ◌==◌, Option, Some, None, length}
 use Rattle.std.specs.List.{list_all}
 use Rattle.melon_schema.specs.declared.schema.ColumnSchema.{ColumnSchema}
 use Rattle.melon_schema.specs.declared.schema.TableSchema.{TableSchema}
 use Rattle.melon_raw.specs.declared.raw.Raw.{Raw}
 use Rattle.melon_raw.specs.Rows.{Rows, at}
-use Rattle.melon_table.specs.Seen.{SeenTable}
+use Rattle.melon_table.specs.Seen.{SeenTable, rows_of, columns_of, declared_columns}
 use Rattle.melon_table.specs.Kept.{IsKept}
 use Rattle.melon_change.specs.declared.change.Change.{Change}
 use Rattle.melon_change.specs.declared.history.Entry.{Entry}
-use Rattle.melon_change.specs.Changes.{columns_at, key_of, change_of}
-use Rattle.melon_change.specs.History.{KeepsId, FitsIfAny}
+use Rattle.melon_change.specs.Changes.{columns_at, key_of, change_of, after_change}
+use Rattle.melon_change.specs.History.{KeepsId, FitsIfAny, IsEntry, IsLegal, replay}
 
--- the tables, the journal, and the rows after of the set for which room was made
+-- the rows of the opening, the tables with the rows now, the journal, and the rows after of the set for which room was made
 pub record SeenBoard : Type 0 where
+  pub opening : Rows
   pub tables : List SeenTable
   pub entries : List Entry
   pub ready : Option (List (Option Raw))
+
+-- each declared table has its rows, which ascend and fit it
+abbrev pub AreKept : List TableSchema → Rows → Type 0
+AreKept schema rows = (t : ℕ) → IsKept (columns_at schema t) (get_or rows t [])
+
+-- ---- back to the opening
+
+-- the change back
+abbrev pub undone : Change → Change
+undone c = record { table = c.table; id = c.id; before = c.after; after = c.before }
+
+-- the rows before a set, from those after it: its last change is undone first
+abbrev pub before_set : Rows → List Change → Rows
+before_set rows [] = rows
+before_set rows (c ∷ cs) = after_change (before_set rows cs) (undone c)
+
+-- the rows before the entries, from those after them
+abbrev pub rewound : Rows → List Entry → Rows
+rewound rows [] = rows
+rewound rows (e ∷ es) = before_set (rewound rows es) e.set
+
+-- The journal is a legal history from the opening rows, under every schema with these columns, and the rows now are its replay.
+pub record IsOneHistory (board : SeenBoard) : Type 0 where
+  pub legal : (schema : List TableSchema) → declared_columns schema ≡ columns_of board.tables → IsLegal schema board.opening board.entries
+  pub replayed : replay board.opening board.entries ≡ rows_of board.tables
+
+-- An entry that a legal history of such tables may have next, whose rows now ascend and fit them.
+pub record IsNext (columns : List (List ColumnSchema)) (rows : Rows) (e : Entry) : Type 0 where
+  pub schema : List TableSchema
+  pub declared : declared_columns schema ≡ columns
+  pub kept : AreKept schema rows
+  pub entry : IsEntry schema rows e
+
+-- ---- room
 
 abbrev pub afters : List Change → List (Option Raw)
 afters set = map (λ c. c.after) set
@@ -56,10 +91,6 @@ HasRoom tables set = (t : ℕ) → rows_made t set ≤ spare_at tables t
 pub record IsReady (board : SeenBoard) (set : List Change) : Type 0 where
   pub copied : board.ready ≡ Some (afters set)
   pub room : HasRoom board.tables set
-
--- each declared table has its rows, which ascend and fit it
-abbrev pub AreKept : List TableSchema → Rows → Type 0
-AreKept schema rows = (t : ℕ) → IsKept (columns_at schema t) (get_or rows t [])
 
 -- the places of the tables are in range
 abbrev pub are_within : ℕ → List Change → Bool

@@ -1,35 +1,23 @@
 -- What a call does of its plan, and what becomes of what is kept.
-use Rattle.std.specs.Prelude.{◌≡◌, ℕ, ◌≤◌, List, length, true, Option, Some, None, Result, Ok, Err, IsErrOf}
+use Rattle.std.specs.Prelude.{◌≡◌, ◌⊎◌, ℕ, List, [], ◌∷◌, length, true, false, Option, Some, None, Result, Ok, Err}
 use Rattle.melon_schema.specs.Seen.{SeenSchema}
 use Rattle.melon_outside.specs.declared.kept.Kept.{Kept}
 use Rattle.melon_outside.specs.declared.kept.KeptBatch.{KeptBatch}
 use Rattle.melon_outside.specs.declared.kept.OpenFault.{OpenFault}
 use Rattle.melon_outside.specs.declared.kept.OpenFault.TheVariants as opening
-use Rattle.melon_outside.specs.Kept.{batched, is_in_order}
-use Rattle.melon_outside.specs.Keeping.{Stores, AreSame, Changes, IsLeft}
+use Rattle.melon_outside.specs.Keeping.{Stores, IsLeft}
+use Rattle.melon_outside.specs.SeenKeeper.{SeenKeeper, Answered}
+use Rattle.melon_outside.specs.Asking.{HoldsAsBefore, IsOver, done_of}
 use Rattle.melon_board.specs.declared.fault.WriteFault.{WriteFault}
 use Rattle.melon_board.specs.declared.fault.WriteFault.TheVariants.{Batch, StoreFull, SessionFull, KeeperFault, Memory}
 use Rattle.melon_board.specs.Stores.{SeenStore, store_key}
 use Rattle.melon_board.specs.Plans.{Plan, asked}
 use Rattle.melon_board.specs.Opening.{open_plan}
+use Rattle.melon_board.specs.Keeps.{Keeps}
 
--- ---- the keeper
-
--- the batch was done, where there is one
-abbrev pub IsDone : Option KeptBatch → List ℕ → Stores → Stores → Type 0
-IsDone None store was now = AreSame now was
-IsDone (Some batch) store was now = Changes (batched batch) store was now
-
--- with Ok what was asked is done, and after an Err what is kept is as it was
-abbrev pub IsDoneOnOk : {T E : Type 0} → Option KeptBatch → List ℕ → Result T E → Stores → Stores → Type 0
-IsDoneOnOk batch store (Ok x) was now = IsDone batch store was now
-IsDoneOnOk batch store (Err e) was now = AreSame now was
-
--- A sound keeper stays so, its count doesn't rise, and this fault never comes over it.
-pub record IsSoundly {T E : Type 0} (sound_before sound_now : Type 0) (before now : ℕ) (fault : E) (result : Result T E) : Type 0 where
-  pub stays : sound_before → sound_now
-  pub count : sound_before → now ≡ before
-  pub never : sound_before → IsErrOf result fault → ⊥
+-- What the keeper tells that it holds under the store's name is what the store has.
+abbrev pub HoldsStore : SeenKeeper → SeenStore → Type 0
+HoldsStore seen store = (m : Stores) → seen.holds m → Keeps store (m (store_key store.name))
 
 -- ---- a write
 
@@ -59,28 +47,25 @@ IsWritten plan was now (Err fault) = (plan ≡ Err fault) × (now ≡ was)
 
 -- ---- an opening
 
--- A store was loaded as kept. Where the keeper tells what it holds now, it held that before, but for what was asked, which is done.
-pub record IsOver (before now : Stores → Type 0) (store : List ℕ) (kept : Kept) (batch : Option KeptBatch) : Type 0 where
-  pub ordered : is_in_order kept ≡ true
-  pub told : (m : Stores) → now m → (was : Stores) × before was × (kept ≡ was store) × IsDone batch store was m
-
--- A store was loaded as kept from what was held, and an honest keeper holds that on.
-abbrev pub GoesOn : (Stores → Type 0) → (Stores → Type 0) → Type 0 → List ℕ → Kept → Type 0
-GoesOn before now honest store kept = honest → (was : Stores) → before was → now was × (kept ≡ was store)
-
 -- A stop leaves what was held, or that with all the values that an opening over it keeps.
-abbrev pub LeavesOpened : (Stores → Type 0) → (Stores → Type 0) → List ℕ → SeenSchema → Type 0
-LeavesOpened before may_leave name schema = (was : Stores) → before was → (left : Stores) → may_leave left
+abbrev pub LeavesOpened : SeenKeeper → SeenKeeper → List ℕ → SeenSchema → Type 0
+LeavesOpened before now name schema = (was : Stores) → before.holds was → (left : Stores) → now.may_leave left
     → IsLeft (asked (open_plan name schema (was (store_key name)))) (store_key name) was left
 
--- what the keeper holds now it held before
-abbrev pub HoldsAsBefore : (Stores → Type 0) → (Stores → Type 0) → Type 0
-HoldsAsBefore before now = (m : Stores) → now m → (was : Stores) × before was × AreSame m was
+-- The load failed, or it was done, what was loaded has no bad row and no other version, and the commit of what its plan
+-- asks failed. The keeper holds what it held.
+abbrev pub FailsOpening : SeenKeeper → SeenKeeper → List ℕ → SeenSchema → Type 0
+FailsOpening before now name schema =
+    HoldsAsBefore before now × Answered (false ∷ []) before now
+    ⊎ ((kept : Kept) × (batch : KeptBatch) × (asked (open_plan name schema kept) ≡ Some batch) × IsOver before now (store_key name) kept None × Answered (true ∷ false ∷ []) before now)
 
--- The opened store is as planned over what was loaded, and what the plan asks is done. Every fault but the keeper's and
--- want of memory is the plan's over what was loaded. After each fault the keeper holds what it held.
-abbrev pub Opens : (Stores → Type 0) → (Stores → Type 0) → List ℕ → SeenSchema → Result SeenStore OpenFault → Type 0
-Opens before now name schema (Ok store) = (kept : Kept) × (open_plan name schema kept ≡ Ok (record { batch = asked (open_plan name schema kept); after = store })) × IsOver before now (store_key name) kept (asked (open_plan name schema kept))
-Opens before now name schema (Err opening.KeeperFault) = HoldsAsBefore before now
-Opens before now name schema (Err opening.Memory) = HoldsAsBefore before now
-Opens before now name schema (Err fault) = (kept : Kept) × (open_plan name schema kept ≡ Err fault) × IsOver before now (store_key name) kept None
+-- The store is loaded once. The opened store is as planned over what was loaded, and what the plan asks is committed once
+-- and done. Every fault but the keeper's and want of memory is the plan's over what was loaded, and nothing is committed.
+-- After each fault the keeper holds what it held.
+abbrev pub Opens : SeenKeeper → SeenKeeper → List ℕ → SeenSchema → Result SeenStore OpenFault → Type 0
+Opens before now name schema (Ok store) =
+    (kept : Kept) × (open_plan name schema kept ≡ Ok (record { batch = asked (open_plan name schema kept); after = store })) × IsOver before now (store_key name) kept (asked (open_plan name schema kept))
+    × Answered (true ∷ done_of (asked (open_plan name schema kept))) before now
+Opens before now name schema (Err opening.KeeperFault) = FailsOpening before now name schema
+Opens before now name schema (Err opening.Memory) = HoldsAsBefore before now × (Answered [] before now ⊎ Answered (true ∷ []) before now)
+Opens before now name schema (Err fault) = (kept : Kept) × (open_plan name schema kept ≡ Err fault) × IsOver before now (store_key name) kept None × Answered (true ∷ []) before now

@@ -2,9 +2,8 @@
 use Rattle.std.specs.Prelude.{◌≡◌, ℕ, List, [], length, Bool, true, IsUtf8, Option, Some, None, Result, Ok}
 use Rattle.std.specs.List.{AllByRecursion}
 use Rattle.serde_json.specs.Data.{Data}
-use Rattle.melon_schema.specs.Names.{are_distinct}
 use Rattle.melon_schema.specs.Schema.{schema_of}
-use Rattle.melon_schema.specs.Sound.{AreSound}
+pub use Rattle.melon_schema.specs.Sound.{have_different_names, HasSoundColumns}
 use Rattle.melon_schema.specs.Seen.{SeenSchema}
 use Rattle.melon_schema.specs.declared.schema.TableSchema.{TableSchema}
 use Rattle.melon_raw.specs.Rows.{Rows}
@@ -22,10 +21,6 @@ use Rattle.melon_board.specs.Batches.{last_batch}
 use Rattle.melon_board.specs.Plans.{Plan, install_plan, write_plan}
 use Rattle.melon_board.specs.Opening.{open_plan, opened}
 use Rattle.melon_board.specs.Keeps.{Keeps}
-
--- no two tables have one name
-abbrev pub have_different_names : List TableSchema → Bool
-have_different_names tables = are_distinct (λ t. t.name) tables
 
 -- The tables have different names, and each has its rows, which ascend and fit it.
 pub record IsWellFormed (store : SeenStore) : Type 0 where
@@ -90,9 +85,6 @@ SavesContinue = (opening : Rows) (store : SeenStore) (at : ℕ) → Continues op
 -- A schema that is read declares tables with different names.
 abbrev pub ReadSchemasHaveDifferentNames : Type 0
 ReadSchemasHaveDifferentNames = (d : Data) (schema : SeenSchema) → schema_of d ≡ Ok schema → have_different_names schema.tables ≡ true
-
-abbrev pub HasSoundColumns : TableSchema → Type 0
-HasSoundColumns table = AreSound table.columns
 
 -- Each of its tables has columns of different names, after the rule for names and none reserved.
 abbrev pub ReadSchemasAreSound : Type 0

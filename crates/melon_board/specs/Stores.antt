@@ -5,6 +5,7 @@ use Rattle.melon_raw.specs.Rows.{Rows}
 use Rattle.melon_change.specs.declared.history.Entry.{Entry}
 use Rattle.melon_change.specs.Changes.{after_set}
 use Rattle.melon_change.specs.History.{replay, IsLegal}
+use Rattle.melon_board.specs.Boards.{rewound}
 
 -- a name, a schema, the rows now, the journal of this opening, and lastPulledAt
 pub record SeenStore : Type 0 where
@@ -35,3 +36,12 @@ with_last last store = record { name = store.name; schema = store.schema; rows =
 pub record Continues (opening : Rows) (store : SeenStore) : Type 0 where
   pub legal : IsLegal store.schema.tables opening store.entries
   pub replayed : replay opening store.entries ≡ store.rows
+
+-- the rows of its opening: the rows now, with every entry undone
+abbrev pub opening_of : SeenStore → Rows
+opening_of store = rewound store.rows store.entries
+
+-- One legal history, from the rows of one opening, before and after.
+pub record KeepsHistory (was now : SeenStore) : Type 0 where
+  pub opening : opening_of now ≡ opening_of was
+  pub history : Continues (opening_of now) now

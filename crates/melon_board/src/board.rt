@@ -2,7 +2,7 @@ ghost use Rattle.std.specs.Prelude.{◌≡◌, ◌<◌, ◌+◌, [], ◌∷◌, 
 ghost use Rattle.std.specs.Vec.{vec_len, vec_capacity};
 ghost use Rattle.melon_table.specs.Seen.{rows_of, columns_of};
 ghost use Rattle.melon_change.specs.Changes.{after_set};
-ghost use Rattle.melon_board.specs.Boards.{are_within, IsReady, AreNow};
+ghost use Rattle.melon_board.specs.Boards.{are_within, IsReady, IsOneHistory, IsNext};
 
 use crate::apply::{apply, copy_afters, make_room};
 use melon_change::{ChangeSet, Entry};
@@ -13,8 +13,8 @@ use std::alloc::{AllocError, Global};
 use std::marker::Model;
 use std::sync::ledger::Ledger;
 
-/// The rows now of an app, and the journal of the entries that led to them since the opening. The opening rows are not
-/// kept beside them.
+/// The rows now of an app, and the journal of the entries that led to them since the opening: one legal history. The
+/// opening rows are not kept beside them.
 #[derive(Debug, Drop)]
 pub struct Board {
     tables: Tables,
@@ -27,11 +27,11 @@ impl Model for Board {
 
     ghost Value = { SeenBoard };
 
-    ghost use Rattle.melon_board.specs.Inside.{board_in, HasPlace};
+    ghost use Rattle.melon_board.specs.Inside.{board_in, HoldsHistory};
 
     ghost view = { board_in };
 
-    ghost invariant = { HasPlace };
+    ghost invariant = { HoldsHistory };
 }
 
 /// A push that takes no memory, since there is room.
@@ -56,7 +56,7 @@ fn tick_all<L: Ledger>(count: usize, steps: &mut Steps<L>)
 impl Board {
     /// A board over these opening rows, with an empty journal.
     pub fn open(alloc: Global, opening: Tables) -> Board
-        ensures { result ≡ record { tables = opening; entries = []; ready = None } }
+        ensures { result ≡ record { opening = rows_of opening; tables = opening; entries = []; ready = None } }
     {
         Board {
             tables: opening,
@@ -84,6 +84,7 @@ impl Board {
         requires { i < length self.now.entries }
         ensures entry { slice_get self.now.entries i ≡ Some result.now }
         ensures cost { steps.new ≡ steps.old + length result.now.set }
+        ensures history { IsOneHistory self.now }
     {
         let entry = &self.entries[i];
         tick_all(entry.set.len(), steps);
@@ -97,11 +98,13 @@ impl Board {
         ensures rows { rows_of self.new.tables ≡ rows_of self.old.tables }
         ensures columns { columns_of self.new.tables ≡ columns_of self.old.tables }
         ensures entries { self.new.entries ≡ self.old.entries }
+        ensures opening { self.new.opening ≡ self.old.opening }
+        ensures history { IsOneHistory self.new }
         ensures err { OnErr result (self.new.ready ≡ self.old.ready) }
     {
         let changes = set.as_slice();
-        let rows = copy_afters(alloc, changes)?;
         self.entries.reserve(1)?;
+        let rows = copy_afters(alloc, changes)?;
         make_room(&mut self.tables, changes)?;
         self.ready = Some(rows);
         Ok(())
@@ -109,12 +112,13 @@ impl Board {
 
     /// Does the changes of an entry for whose set room was made, and puts the entry at the end of the journal.
     pub fn install(&mut self, entry: Entry)
-        requires some { 0 < length entry.set }
         requires ready { IsReady self.old entry.set }
-        requires now { AreNow (columns_of self.old.tables) (rows_of self.old.tables) entry.set }
+        requires next { IsNext (columns_of self.old.tables) (rows_of self.old.tables) entry }
         ensures rows { rows_of self.new.tables ≡ after_set (rows_of self.old.tables) entry.set }
         ensures columns { columns_of self.new.tables ≡ columns_of self.old.tables }
         ensures entries { self.new.entries ≡ self.old.entries ++ entry ∷ [] }
+        ensures opening { self.new.opening ≡ self.old.opening }
+        ensures history { IsOneHistory self.new }
         ensures ready { self.new.ready ≡ None }
     {
         if let Some(rows) = self.ready.take() {

@@ -8,8 +8,6 @@ pub mod fault;
 pub mod laws;
 mod opening;
 pub mod store;
-#[cfg(test)]
-mod tests;
 
 pub use board::Board;
 pub use fault::WriteFault;

@@ -1,20 +1,21 @@
-ghost use Rattle.std.specs.Prelude.{◌≡◌, ◌<◌, ◌++◌, ◌∷◌, [], length, IfOk, IfErr, OnOk, OnErr, string_bytes, true, Some, None, Ok, MatchResult};
+ghost use Rattle.std.specs.Prelude.{◌≡◌, ◌<◌, ◌++◌, ◌∷◌, [], length, IfOk, IfErr, OnOk, OnErr, IsErrOf, string_bytes, true, Some, None, Ok, MatchResult};
+ghost use Rattle.melon_schema.specs.Faults.{Fails};
+ghost use Rattle.melon_schema.specs.Sound.{IsSoundSchema};
 ghost use Rattle.melon_raw.specs.Rows.{Rows};
 ghost use Rattle.melon_table.specs.Seen.{rows_of, columns_of, declared_columns};
-ghost use Rattle.melon_outside.specs.Causes.{HasCauseOf};
-ghost use Rattle.melon_outside.specs.Kept.{batched};
-ghost use Rattle.melon_outside.specs.Keeping.{Stores, Committed, Leaves};
+ghost use Rattle.melon_outside.specs.Causes.{Rose};
+ghost use Rattle.melon_outside.specs.SeenKeeper.{Later};
+ghost use Rattle.melon_outside.specs.Asking.{Asks};
 ghost use Rattle.melon_change.specs.History.{AreChanges, IsEntry};
 ghost use Rattle.melon_change.specs.Changes.{after_set};
-ghost use Rattle.melon_board.specs.Boards.{AreKept, are_within, AreNow};
+ghost use Rattle.melon_board.specs.Boards.{AreKept, are_within, IsNext, IsOneHistory};
 ghost use Rattle.melon_board.specs.Sizes.{stored_bytes, journal_bytes};
-ghost use Rattle.melon_board.specs.Stores.{store_key, with_entry, with_last, Continues};
+ghost use Rattle.melon_board.specs.Stores.{store_key, with_entry, with_last, opening_of, Continues, KeepsHistory};
 ghost use Rattle.melon_board.specs.Batches.{last_batch};
 ghost use Rattle.melon_board.specs.Plans.{entry_plan, install_plan, write_plan, asked};
-ghost use Rattle.melon_schema.specs.Faults.{Fails};
 ghost use Rattle.melon_board.specs.Opening.{open_plan};
 ghost use Rattle.melon_board.specs.Opened.{IsOfKept};
-ghost use Rattle.melon_board.specs.Carried.{GoesOn, LeavesOpened, IsDoneOnOk, IsSoundly, IsOfKeeper, Refuses, IsWritten, IsOver, HoldsAsBefore, Opens};
+ghost use Rattle.melon_board.specs.Carried.{LeavesOpened, IsOfKeeper, Refuses, IsWritten, Opens, HoldsStore};
 
 use crate::WriteFault;
 use crate::board::Board;
@@ -92,18 +93,16 @@ fn commit_entry<K: Keeper>(
     entry: Entry,
 ) -> Result<(), WriteFault>
     requires within { are_within (length board.old.tables) entry.set ≡ true }
-    requires some { 0 < length entry.set }
-    requires now { AreNow (columns_of board.old.tables) (rows_of board.old.tables) entry.set }
+    requires next { IsNext (columns_of board.old.tables) (rows_of board.old.tables) entry }
     ensures rows { OnOk result (rows_of board.new.tables ≡ after_set (rows_of board.old.tables) entry.set) }
     ensures entries { OnOk result (board.new.entries ≡ board.old.entries ++ entry ∷ []) }
     ensures columns { columns_of board.new.tables ≡ columns_of board.old.tables }
+    ensures opening { board.new.opening ≡ board.old.opening }
+    ensures history { IsOneHistory board.new }
     ensures same_rows { OnErr result (rows_of board.new.tables ≡ rows_of board.old.tables) }
     ensures same_entries { OnErr result (board.new.entries ≡ board.old.entries) }
     ensures fault { IfErr result IsOfKeeper }
-    ensures kept { (m : Stores) → K.holds keeper.new m → (was : Stores) × K.holds keeper.old was × Committed (batched planned.now.batch) (string_bytes planned.now.key) result was m }
-    ensures stops { Leaves (Some planned.now.batch) (string_bytes planned.now.key) (K.holds keeper.old) (K.may_leave keeper.new) }
-    ensures cause { HasCauseOf WriteFault.KeeperFault (K.faults keeper.old) (K.faults keeper.new) result }
-    ensures sound { IsSoundly (K.sound keeper.old) (K.sound keeper.new) (K.faults keeper.old) (K.faults keeper.new) WriteFault.KeeperFault result }
+    ensures keeper { Asks (Some planned.now.batch) (string_bytes planned.now.key) WriteFault.KeeperFault result (K.seen keeper.old) (K.seen keeper.new) }
 {
     board.room(alloc, &entry.set)?;
     keeper.commit(alloc, planned.key.as_str(), &planned.batch)?;
@@ -118,28 +117,13 @@ fn commit_any<K: Keeper>(
     key: &str,
     batch: &Option<KeptBatch>,
 ) -> Result<(), KeeperError>
-    ensures kept { (m : Stores) → K.holds keeper.new m → (was : Stores) × K.holds keeper.old was × IsDoneOnOk batch.now key.now result was m }
-    ensures stops { Leaves batch.now key.now (K.holds keeper.old) (K.may_leave keeper.new) }
-    ensures was_honest { K.honest keeper.new → K.honest keeper.old }
-    ensures cause { HasCauseOf KeeperError.Failed (K.faults keeper.old) (K.faults keeper.new) result }
-    ensures sound { IsSoundly (K.sound keeper.old) (K.sound keeper.new) (K.faults keeper.old) (K.faults keeper.new) KeeperError.Failed result }
+    ensures keeper { Asks batch.now key.now KeeperError.Failed result (K.seen keeper.old) (K.seen keeper.new) }
+    ensures was_honest { (K.seen keeper.new).honest → (K.seen keeper.old).honest }
 {
     match batch {
         Some(batch) => keeper.commit(alloc, key, batch),
         None => Ok(()),
     }
-}
-
-/// What a keeper holds of a store, and that leaves it.
-fn load_kept<K: Keeper>(alloc: Global, keeper: &mut K, key: &str) -> Result<Kept, KeeperError>
-    ensures kept { IfOk result (λ kept. IsOver (K.holds keeper.old) (K.holds keeper.new) key.now kept None) }
-    ensures held { HoldsAsBefore (K.holds keeper.old) (K.holds keeper.new) }
-    ensures stops { Leaves None key.now (K.holds keeper.old) (K.may_leave keeper.new) }
-    ensures goes_on { IfOk result (GoesOn (K.holds keeper.old) (K.holds keeper.new) (K.honest keeper.new) key.now) }
-    ensures cause { HasCauseOf KeeperError.Failed (K.faults keeper.old) (K.faults keeper.new) result }
-    ensures sound { IsSoundly (K.sound keeper.old) (K.sound keeper.new) (K.faults keeper.old) (K.faults keeper.new) KeeperError.Failed result }
-{
-    keeper.load(alloc, key)
 }
 
 /// A store over what is kept, and what is missing there.
@@ -152,6 +136,7 @@ fn laid_out(
 ) -> Result<(Store, Option<KeptBatch>), OpenFault>
     ensures plan { MatchResult result (λ p. open_plan name schema kept ≡ Ok (record { batch = p.1; after = p.0 })) (λ f. Fails OpenFault.Memory f (open_plan name schema kept)) }
     ensures fault { IfErr result IsOfKept }
+    ensures sound { OnOk result (IsSoundSchema schema) }
 {
     let Kept { rows, values } = kept;
     let Opened { tables, stored } = open_rows(alloc, &schema, rows.as_slice())?;
@@ -178,14 +163,16 @@ impl Store {
         name: &str,
         schema: AppSchema,
     ) -> Result<Store, OpenFault>
-        ensures opens { Opens (K.holds keeper.old) (K.holds keeper.new) name.now schema result }
-        ensures stops { LeavesOpened (K.holds keeper.old) (K.may_leave keeper.new) name.now schema }
-        ensures cause { HasCauseOf OpenFault.KeeperFault (K.faults keeper.old) (K.faults keeper.new) result }
-        ensures sound { IsSoundly (K.sound keeper.old) (K.sound keeper.new) (K.faults keeper.old) (K.faults keeper.new) OpenFault.KeeperFault result }
+        ensures opens { Opens (K.seen keeper.old) (K.seen keeper.new) name.now schema result }
+        ensures keeps { IfOk result (HoldsStore (K.seen keeper.new)) }
+        ensures stops { LeavesOpened (K.seen keeper.old) (K.seen keeper.new) name.now schema }
+        ensures later { Later (K.seen keeper.old) (K.seen keeper.new) }
+        ensures cause { IsErrOf result OpenFault.KeeperFault → Rose (K.seen keeper.old).faults (K.seen keeper.new).faults }
+        ensures never { (K.seen keeper.old).sound → IsErrOf result OpenFault.KeeperFault → ⊥ }
     {
         let key = store_key(alloc, name)?;
         let name = Text::new(alloc, name)?;
-        let kept = load_kept(alloc, keeper, key.as_str())?;
+        let kept = keeper.load(alloc, key.as_str())?;
         let laid = laid_out(alloc, name, schema, kept)?;
         commit_any(alloc, keeper, key.as_str(), &laid.1)?;
         let (store, _) = laid;
@@ -205,6 +192,8 @@ impl Store {
         ensures columns { columns_of result.now.tables ≡ declared_columns self.now.schema.tables }
         ensures entries { result.now.entries ≡ self.now.entries }
         ensures kept { AreKept self.now.schema.tables self.now.rows }
+        ensures opening { result.now.opening ≡ opening_of self.now }
+        ensures history { Continues result.now.opening self.now }
     {
         &self.board
     }
@@ -232,10 +221,9 @@ impl Store {
         ops: List<Op>,
     ) -> Result<u64, WriteFault>
         ensures written { IsWritten (write_plan self.old ops) self.old self.new result }
-        ensures kept { (m : Stores) → K.holds keeper.new m → (was : Stores) × K.holds keeper.old was × IsDoneOnOk (asked (write_plan self.old ops)) (store_key self.old.name) result was m }
-        ensures stops { Leaves (asked (write_plan self.old ops)) (store_key self.old.name) (K.holds keeper.old) (K.may_leave keeper.new) }
-        ensures cause { HasCauseOf WriteFault.KeeperFault (K.faults keeper.old) (K.faults keeper.new) result }
-        ensures sound { IsSoundly (K.sound keeper.old) (K.sound keeper.new) (K.faults keeper.old) (K.faults keeper.new) WriteFault.KeeperFault result }
+        ensures keeper { Asks (asked (write_plan self.old ops)) (store_key self.old.name) WriteFault.KeeperFault result (K.seen keeper.old) (K.seen keeper.new) }
+        ensures keeps { HoldsStore (K.seen keeper.old) self.old → HoldsStore (K.seen keeper.new) self.new }
+        ensures history { KeepsHistory self.old self.new }
         ensures continues { (opening : Rows) → Continues opening self.old → Continues opening self.new }
     {
         let set = prepare(alloc, self.board.tables(), &self.schema, ops)?;
@@ -252,10 +240,9 @@ impl Store {
     ) -> Result<u64, WriteFault>
         requires { AreChanges self.old.schema.tables self.old.rows origin set }
         ensures written { IsWritten (install_plan self.old origin set) self.old self.new result }
-        ensures kept { (m : Stores) → K.holds keeper.new m → (was : Stores) × K.holds keeper.old was × IsDoneOnOk (asked (install_plan self.old origin set)) (store_key self.old.name) result was m }
-        ensures stops { Leaves (asked (install_plan self.old origin set)) (store_key self.old.name) (K.holds keeper.old) (K.may_leave keeper.new) }
-        ensures cause { HasCauseOf WriteFault.KeeperFault (K.faults keeper.old) (K.faults keeper.new) result }
-        ensures sound { IsSoundly (K.sound keeper.old) (K.sound keeper.new) (K.faults keeper.old) (K.faults keeper.new) WriteFault.KeeperFault result }
+        ensures keeper { Asks (asked (install_plan self.old origin set)) (store_key self.old.name) WriteFault.KeeperFault result (K.seen keeper.old) (K.seen keeper.new) }
+        ensures keeps { HoldsStore (K.seen keeper.old) self.old → HoldsStore (K.seen keeper.new) self.new }
+        ensures history { KeepsHistory self.old self.new }
         ensures continues { (opening : Rows) → Continues opening self.old → Continues opening self.new }
     {
         if set.is_empty() {
@@ -292,10 +279,9 @@ impl Store {
     ) -> Result<u64, WriteFault>
         requires { IsEntry self.old.schema.tables self.old.rows entry }
         ensures written { IsWritten (entry_plan self.old entry) self.old self.new result }
-        ensures kept { (m : Stores) → K.holds keeper.new m → (was : Stores) × K.holds keeper.old was × IsDoneOnOk (asked (entry_plan self.old entry)) (store_key self.old.name) result was m }
-        ensures stops { Leaves (asked (entry_plan self.old entry)) (store_key self.old.name) (K.holds keeper.old) (K.may_leave keeper.new) }
-        ensures cause { HasCauseOf WriteFault.KeeperFault (K.faults keeper.old) (K.faults keeper.new) result }
-        ensures sound { IsSoundly (K.sound keeper.old) (K.sound keeper.new) (K.faults keeper.old) (K.faults keeper.new) WriteFault.KeeperFault result }
+        ensures keeper { Asks (asked (entry_plan self.old entry)) (store_key self.old.name) WriteFault.KeeperFault result (K.seen keeper.old) (K.seen keeper.new) }
+        ensures keeps { HoldsStore (K.seen keeper.old) self.old → HoldsStore (K.seen keeper.new) self.new }
+        ensures history { KeepsHistory self.old self.new }
         ensures continues { (opening : Rows) → Continues opening self.old → Continues opening self.new }
     {
         let planned = self.planned(alloc, &entry)?;
@@ -314,14 +300,13 @@ impl Store {
     ) -> Result<(), KeeperError>
         ensures ok { OnOk result (self.new ≡ with_last at self.old) }
         ensures err { OnErr result (self.new ≡ self.old) }
-        ensures kept { (m : Stores) → K.holds keeper.new m → (was : Stores) × K.holds keeper.old was × Committed (batched (last_batch at)) (store_key self.old.name) result was m }
-        ensures stops { Leaves (Some (last_batch at)) (store_key self.old.name) (K.holds keeper.old) (K.may_leave keeper.new) }
-        ensures cause { HasCauseOf KeeperError.Failed (K.faults keeper.old) (K.faults keeper.new) result }
-        ensures sound { IsSoundly (K.sound keeper.old) (K.sound keeper.new) (K.faults keeper.old) (K.faults keeper.new) KeeperError.Failed result }
+        ensures keeper { Asks (Some (last_batch at)) (store_key self.old.name) KeeperError.Failed result (K.seen keeper.old) (K.seen keeper.new) }
+        ensures keeps { HoldsStore (K.seen keeper.old) self.old → HoldsStore (K.seen keeper.new) self.new }
+        ensures history { KeepsHistory self.old self.new }
         ensures continues { (opening : Rows) → Continues opening self.old → Continues opening self.new }
     {
-        let batch = last_batch(alloc, at)?;
         let key = store_key(alloc, self.name.as_str())?;
+        let batch = last_batch(alloc, at)?;
         keeper.commit(alloc, key.as_str(), &batch)?;
         self.last = at;
         Ok(())

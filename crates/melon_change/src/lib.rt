@@ -11,7 +11,6 @@ mod named;
 pub mod op;
 mod reading;
 pub mod rule;
-mod tests;
 
 pub use batch::prepare;
 pub use change::{Change, ChangeSet, Told};

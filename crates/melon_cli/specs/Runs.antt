@@ -2,17 +2,18 @@
 use Rattle.std.specs.Prelude.{◌≡◌, ◌≤◌, ◌⊎◌, ℕ, List, [], ◌∷◌, ◌++◌, length, take, map, codes, String, string_bytes, Option, Bool}
 use Rattle.std.specs.declared.alloc.Global.{Global}
 use Rattle.melon_outside.specs.Keeping.{Stores, AreSame}
+use Rattle.melon_outside.specs.SeenKeeper.{SeenKeeper, Answered}
 use Rattle.melon_outside.specs.Moves.{Grows, GrowsByFront, IsWhole}
-use Rattle.melon_board.specs.Carried.{HoldsAsBefore}
 use Rattle.melon_script.specs.SeenLine.{SeenLine}
 use Rattle.melon_script.specs.Script.{bad_line, IsLine}
 use Rattle.melon_script.specs.Printed.{answer_text}
 use Rattle.melon_script.specs.declared.item.Item.{Item}
-use Rattle.melon_machine.specs.Calls.{Calls, failures, RoseBy, Follows}
+use Rattle.melon_machine.specs.Calls.{Calls, failures, RoseBy, Follows, Begins}
 use Rattle.melon_machine.specs.Legal.{IsKeptAs}
+use Rattle.melon_machine.specs.Sound.{IsSound}
 use Rattle.melon_machine.specs.State.{Machine, KeptMachine}
 use Rattle.melon_machine.specs.Outcomes.{Stepped, ends_with}
-use Rattle.melon_machine.specs.Step.{kept_calls}
+use Rattle.melon_machine.specs.Step.{step, kept_calls}
 use Rattle.melon_machine.specs.Run.{run, line_calls, ComesTo}
 
 -- the words of a run
@@ -30,45 +31,60 @@ abbrev pub IsOfCalls : List ℕ → Stores → List Bool → Type 0
 IsOfCalls script was outcomes = (later : List Bool) → (run script was (outcomes ++ later)).left ≡ later
 
 -- The script was run to its end, or up to the first line outside the grammar: its text was written, and that is kept what the
--- machine keeps. Each outcome is one of a call of the keeper, whose count rose with each that failed.
-pub record Ran (script : List ℕ) (was m : Stores) (before after : Option (List ℕ)) (faults_before faults_now : ℕ) : Type 0 where
+-- machine keeps. The outcomes are those that the keeper answered, call by call, and its count rose with each that failed. Each
+-- app's history is legal then, and what is kept are the encodings of its replay.
+pub record Ran (script : List ℕ) (was m : Stores) (before after : Option (List ℕ)) (old new : SeenKeeper) : Type 0 where
   pub outcomes : List Bool
   pub each : IsOfCalls script was outcomes
+  pub answered : Answered outcomes old new
+  pub rose : RoseBy (failures outcomes) old.faults new.faults
   pub written : Grows before after (run script was outcomes).text
   pub kept : AreSame m (run script was outcomes).kept
-  pub rose : RoseBy (failures outcomes) faults_before faults_now
+  pub sound : IsSound (run script was outcomes).after (run script was outcomes).kept
 
-abbrev pub RunsWhole : List ℕ → (Stores → Type 0) → (Stores → Type 0) → Option (List ℕ) → Option (List ℕ) → ℕ → ℕ → Type 0
-RunsWhole script held holds before after faults_before faults_now = (m : Stores) → holds m → (was : Stores) × held was × Ran script was m before after faults_before faults_now
+abbrev pub RunsWhole : List ℕ → SeenKeeper → SeenKeeper → Option (List ℕ) → Option (List ℕ) → Type 0
+RunsWhole script old new before after = (m : Stores) → new.holds m → (was : Stores) × old.holds was × Ran script was m before after old new
 
 -- The source was read to its end. The script leaves the grammar at this line or nowhere, and it was run over what the keeper held.
-pub record Prints (left rest before after : Option (List ℕ)) (held holds : Stores → Type 0) (faults_before faults_now : ℕ) (line : Option ℕ) : Type 0 where
+pub record Prints (left rest before after : Option (List ℕ)) (old new : SeenKeeper) (line : Option ℕ) : Type 0 where
   pub script : List ℕ
   pub whole : IsWhole left rest longest_script script
   pub leaves : bad_line script ≡ line
-  pub ran : RunsWhole script held holds before after faults_before faults_now
+  pub ran : RunsWhole script old new before after
 
 -- ---- a run that was cut short
 
+-- these are the outcomes of the first calls of the next line
+abbrev pub IsBegun : List Bool → Machine → List SeenLine → Stores → Type 0
+IsBegun begun now [] kept = begun ≡ []
+IsBegun begun now (line ∷ later) kept = Begins begun (step now line) kept
+
 -- Whatever comes later, the run prints this text first, of which a front was written. It leaves that kept what the machine keeps
--- once it has printed this text.
-pub record RanSoFar (script : List ℕ) (was m : Stores) (faults_before faults_now : ℕ) (rest : List SeenLine) (Shows : List ℕ → Type 0) : Type 0 where
+-- once it has printed this text; each app's history is legal then. The keeper answered the calls of the lines that were taken,
+-- and behind them, where memory ended a line, that line's first calls.
+pub record RanSoFar (script : List ℕ) (was m : Stores) (old new : SeenKeeper) (rest : List SeenLine) (Shows : List ℕ → Type 0) : Type 0 where
   pub outcomes : List Bool
+  pub begun : List Bool
   pub printed : List ℕ
   pub now : Machine
   pub comes : ComesTo script was outcomes printed now m rest
-  pub rose : RoseBy (failures outcomes) faults_before faults_now
+  pub next : IsBegun begun now rest m
+  pub answered : Answered (outcomes ++ begun) old new
+  pub rose : RoseBy (failures (outcomes ++ begun)) old.faults new.faults
+  pub sound : IsSound now m
   pub shows : Shows printed
 
-abbrev pub RunsSoFar : List ℕ → (Stores → Type 0) → (Stores → Type 0) → ℕ → ℕ → (List ℕ → Type 0) → Type 0
-RunsSoFar script held holds faults_before faults_now Shows =
-    (m : Stores) → holds m → (was : Stores) × held was × (rest : List SeenLine) × RanSoFar script was m faults_before faults_now rest Shows
+abbrev pub RunsTo : List ℕ → SeenKeeper → SeenKeeper → List SeenLine → (List ℕ → Type 0) → Type 0
+RunsTo script old new rest Shows = (m : Stores) → new.holds m → (was : Stores) × old.holds was × RanSoFar script was m old new rest Shows
+
+abbrev pub RunsSoFar : List ℕ → SeenKeeper → SeenKeeper → (List ℕ → Type 0) → Type 0
+RunsSoFar script old new Shows = (m : Stores) → new.holds m → (was : Stores) × old.holds was × (rest : List SeenLine) × RanSoFar script was m old new rest Shows
 
 -- The source was read to its end, its script was run some lines far, and a front of their text was written.
-pub record PrintsFront (left rest before after : Option (List ℕ)) (held holds : Stores → Type 0) (faults_before faults_now : ℕ) : Type 0 where
+pub record PrintsFront (left rest before after : Option (List ℕ)) (old new : SeenKeeper) : Type 0 where
   pub script : List ℕ
   pub whole : IsWhole left rest longest_script script
-  pub ran : RunsSoFar script held holds faults_before faults_now (GrowsByFront before after)
+  pub ran : RunsSoFar script old new (GrowsByFront before after)
 
 -- ---- the same with text that is pending
 
@@ -83,18 +99,14 @@ pub record PendsFront (before after : Option (List ℕ)) (pending whole : List �
   pub count : ℕ
   pub pends : Pends before after pending (take count whole)
 
--- the run has come to these lines
-abbrev pub RunsTo : List ℕ → (Stores → Type 0) → (Stores → Type 0) → ℕ → ℕ → List SeenLine → (List ℕ → Type 0) → Type 0
-RunsTo script held holds faults_before faults_now rest Shows =
-    (m : Stores) → holds m → (was : Stores) × held was × RanSoFar script was m faults_before faults_now rest Shows
-
 -- ---- a line
 
--- The items are shown so, and every machine that the code had so made these calls and is left so.
-abbrev pub Takes : (Machine → Calls (Stepped Machine)) → KeptMachine → KeptMachine → (Stores → Type 0) → (Stores → Type 0) → ℕ → ℕ → (List ℕ → Type 0) → Type 0
-Takes calls was now held holds faults_before faults_now Shows =
-    (m : Stores) → holds m → (mid : Stores) × held mid × (items : List Item) × Shows (answer_text items) × ((machine : Machine) → IsKeptAs machine was
-    → (used : List Bool) × Follows (kept_calls (calls machine)) mid used (ends_with now items) m × RoseBy (failures used) faults_before faults_now)
+-- The items are shown so, and every machine that the code had so made these calls and is left so. What the keeper answered are
+-- the outcomes of these calls.
+abbrev pub Takes : (Machine → Calls (Stepped Machine)) → KeptMachine → KeptMachine → SeenKeeper → SeenKeeper → (List ℕ → Type 0) → Type 0
+Takes calls was now old new Shows =
+    (m : Stores) → new.holds m → (mid : Stores) × old.holds mid × (items : List Item) × Shows (answer_text items) × ((machine : Machine) → IsKeptAs machine was
+    → (used : List Bool) × Follows (kept_calls (calls machine)) mid used (ends_with now items) m × RoseBy (failures used) old.faults new.faults × Answered used old new)
 
 -- nothing was added to what is written or pending
 abbrev pub IsUntouched : Option (List ℕ) → Option (List ℕ) → List ℕ → List ℕ → Type 0

@@ -1,6 +1,7 @@
 //! The top calls: words in, a script through the machine, and how it ended.
 #![tactic(auto)]
 
+pub mod laws;
 mod lines;
 mod pending;
 pub mod run;

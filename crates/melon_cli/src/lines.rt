@@ -2,11 +2,12 @@
 ghost use Rattle.std.specs.Prelude.{◌≡◌, ◌≢◌, ◌≤◌, ◌<◌, ◌^◌, ◌⊎◌, ◌++◌, ℕ, [], length, Some, None, OnOk, IsErrOf};
 ghost use Rattle.melon_outside.specs.Causes.{Rose};
 ghost use Rattle.melon_outside.specs.Moves.{GrowsByFront};
-ghost use Rattle.melon_board.specs.Carried.{HoldsAsBefore};
+ghost use Rattle.melon_outside.specs.SeenKeeper.{Later};
 ghost use Rattle.melon_script.specs.Script.{bad_line, IsLine, IsOutside};
 ghost use Rattle.melon_script.specs.Seen.{seen};
 ghost use Rattle.melon_machine.specs.Run.{line_calls};
 ghost use Rattle.melon_machine.specs.Step.{step};
+ghost use Rattle.melon_world.specs.Handled.{InterruptsAs};
 ghost use Rattle.melon_cli.specs.Runs.{Pends, PendsFront, RunsTo, RunsSoFar, Takes, IsUntouched};
 
 use crate::pending::{PutFault, put};
@@ -48,13 +49,13 @@ fn step_line<W: Sink, K: Keeper, N: Ledger>(
     line: &Line,
     steps: &mut Steps<N>,
 ) -> Result<(), LineStop>
-    ensures ok { OnOk result (Takes (λ m. step m (seen line.now)) world.old world.new (K.holds keeper.old) (K.holds keeper.new) (K.faults keeper.old) (K.faults keeper.new) (λ text. Pends (W.written output.old) (W.written output.new) pending.new.items (pending.old.items ++ text))) }
+    ensures ok { OnOk result (Takes (λ m. step m (seen line.now)) world.old world.new (K.seen keeper.old) (K.seen keeper.new) (λ text. Pends (W.written output.old) (W.written output.new) pending.new.items (pending.old.items ++ text))) }
     ensures untouched { IsErrOf result LineStop.Memory → IsUntouched (W.written output.old) (W.written output.new) pending.old.items pending.new.items }
-    ensures memory { IsErrOf result LineStop.Memory → HoldsAsBefore (K.holds keeper.old) (K.holds keeper.new) ⊎ Takes (λ m. step m (seen line.now)) world.old world.new (K.holds keeper.old) (K.holds keeper.new) (K.faults keeper.old) (K.faults keeper.new) (λ _. Unit {0}) }
-    ensures failed { IsErrOf result LineStop.Failed → Takes (λ m. step m (seen line.now)) world.old world.new (K.holds keeper.old) (K.holds keeper.new) (K.faults keeper.old) (K.faults keeper.new) (λ text. GrowsByFront (W.written output.old) (W.written output.new) (pending.old.items ++ text)) }
+    ensures memory { IsErrOf result LineStop.Memory → InterruptsAs (λ m. step m (seen line.now)) world.old (K.seen keeper.old) (K.seen keeper.new) ⊎ Takes (λ m. step m (seen line.now)) world.old world.new (K.seen keeper.old) (K.seen keeper.new) (λ _. Unit {0}) }
+    ensures failed { IsErrOf result LineStop.Failed → Takes (λ m. step m (seen line.now)) world.old world.new (K.seen keeper.old) (K.seen keeper.new) (λ text. GrowsByFront (W.written output.old) (W.written output.new) (pending.old.items ++ text)) }
     ensures cause { IsErrOf result LineStop.Failed → Rose (W.faults output.old) (W.faults output.new) }
     ensures outside { IsErrOf result LineStop.Outside → ⊥ }
-    ensures keeper_later { K.faults keeper.old ≤ K.faults keeper.new }
+    ensures keeper_later { Later (K.seen keeper.old) (K.seen keeper.new) }
     ensures output_later { W.faults output.old ≤ W.faults output.new }
 {
     let answer = world.step(alloc, keeper, line, steps)?;
@@ -77,13 +78,13 @@ fn take_line<W: Sink, K: Keeper, N: Ledger>(
     steps: &mut Steps<N>,
 ) -> Result<(), LineStop>
     ensures line { OnOk result (IsLine bytes.now) }
-    ensures ok { OnOk result (Takes (λ m. line_calls m bytes.now) world.old world.new (K.holds keeper.old) (K.holds keeper.new) (K.faults keeper.old) (K.faults keeper.new) (λ text. Pends (W.written output.old) (W.written output.new) pending.new.items (pending.old.items ++ text))) }
+    ensures ok { OnOk result (Takes (λ m. line_calls m bytes.now) world.old world.new (K.seen keeper.old) (K.seen keeper.new) (λ text. Pends (W.written output.old) (W.written output.new) pending.new.items (pending.old.items ++ text))) }
     ensures untouched { IsErrOf result LineStop.Memory → IsUntouched (W.written output.old) (W.written output.new) pending.old.items pending.new.items }
-    ensures memory { IsErrOf result LineStop.Memory → HoldsAsBefore (K.holds keeper.old) (K.holds keeper.new) ⊎ (IsLine bytes.now × Takes (λ m. line_calls m bytes.now) world.old world.new (K.holds keeper.old) (K.holds keeper.new) (K.faults keeper.old) (K.faults keeper.new) (λ _. Unit {0})) }
-    ensures failed { IsErrOf result LineStop.Failed → IsLine bytes.now × Takes (λ m. line_calls m bytes.now) world.old world.new (K.holds keeper.old) (K.holds keeper.new) (K.faults keeper.old) (K.faults keeper.new) (λ text. GrowsByFront (W.written output.old) (W.written output.new) (pending.old.items ++ text)) }
+    ensures memory { IsErrOf result LineStop.Memory → InterruptsAs (λ m. line_calls m bytes.now) world.old (K.seen keeper.old) (K.seen keeper.new) ⊎ (IsLine bytes.now × Takes (λ m. line_calls m bytes.now) world.old world.new (K.seen keeper.old) (K.seen keeper.new) (λ _. Unit {0})) }
+    ensures failed { IsErrOf result LineStop.Failed → IsLine bytes.now × Takes (λ m. line_calls m bytes.now) world.old world.new (K.seen keeper.old) (K.seen keeper.new) (λ text. GrowsByFront (W.written output.old) (W.written output.new) (pending.old.items ++ text)) }
     ensures cause { IsErrOf result LineStop.Failed → Rose (W.faults output.old) (W.faults output.new) }
-    ensures outside { IsErrOf result LineStop.Outside → IsOutside bytes.now × IsUntouched (W.written output.old) (W.written output.new) pending.old.items pending.new.items × HoldsAsBefore (K.holds keeper.old) (K.holds keeper.new) }
-    ensures keeper_later { K.faults keeper.old ≤ K.faults keeper.new }
+    ensures outside { IsErrOf result LineStop.Outside → IsOutside bytes.now × IsUntouched (W.written output.old) (W.written output.new) pending.old.items pending.new.items × (keeper.new ≡ keeper.old) }
+    ensures keeper_later { Later (K.seen keeper.old) (K.seen keeper.new) }
     ensures output_later { W.faults output.old ≤ W.faults output.new }
 {
     match Line::read(alloc, bytes) {
@@ -105,11 +106,11 @@ pub fn run_lines<W: Sink, K: Keeper, N: Ledger>(
 ) -> Status
     requires short { length script.now < 2 ^ 63 }
     requires none { pending.old.items ≡ [] }
-    ensures done { result ≡ Status.Done → (bad_line script.now ≡ None) × RunsTo script.now (K.holds keeper.old) (K.holds keeper.new) (K.faults keeper.old) (K.faults keeper.new) [] (Pends (W.written output.old) (W.written output.new) pending.new.items) }
-    ensures bad_script { (line : ℕ) → result ≡ Status.BadScript line → (bad_line script.now ≡ Some line) × RunsTo script.now (K.holds keeper.old) (K.holds keeper.new) (K.faults keeper.old) (K.faults keeper.new) [] (Pends (W.written output.old) (W.written output.new) pending.new.items) }
-    ensures front { result ≢ Status.WriteFault → RunsSoFar script.now (K.holds keeper.old) (K.holds keeper.new) (K.faults keeper.old) (K.faults keeper.new) (PendsFront (W.written output.old) (W.written output.new) pending.new.items) }
-    ensures write_fault { result ≡ Status.WriteFault → Rose (W.faults output.old) (W.faults output.new) × RunsSoFar script.now (K.holds keeper.old) (K.holds keeper.new) (K.faults keeper.old) (K.faults keeper.new) (GrowsByFront (W.written output.old) (W.written output.new)) }
-    ensures keeper_later { K.faults keeper.old ≤ K.faults keeper.new }
+    ensures done { result ≡ Status.Done → (bad_line script.now ≡ None) × RunsTo script.now (K.seen keeper.old) (K.seen keeper.new) [] (Pends (W.written output.old) (W.written output.new) pending.new.items) }
+    ensures bad_script { (line : ℕ) → result ≡ Status.BadScript line → (bad_line script.now ≡ Some line) × RunsTo script.now (K.seen keeper.old) (K.seen keeper.new) [] (Pends (W.written output.old) (W.written output.new) pending.new.items) }
+    ensures front { result ≢ Status.WriteFault → RunsSoFar script.now (K.seen keeper.old) (K.seen keeper.new) (PendsFront (W.written output.old) (W.written output.new) pending.new.items) }
+    ensures write_fault { result ≡ Status.WriteFault → Rose (W.faults output.old) (W.faults output.new) × RunsSoFar script.now (K.seen keeper.old) (K.seen keeper.new) (GrowsByFront (W.written output.old) (W.written output.new)) }
+    ensures keeper_later { Later (K.seen keeper.old) (K.seen keeper.new) }
     ensures output_later { W.faults output.old ≤ W.faults output.new }
     ensures words { result ≢ Status.BadWords }
     ensures read_fault { result ≢ Status.ReadFault }

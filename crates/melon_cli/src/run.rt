@@ -1,7 +1,7 @@
 ghost use Rattle.std.specs.Prelude.{◌≡◌, ◌≤◌, ◌<◌, ◌⊎◌, ◌↔◌, ◌≢◌, ◌^◌, IsTrue, ℕ, length, Some, None};
 ghost use Rattle.melon_outside.specs.Moves.{GrowsByFront, TakesCount, TakesUpTo};
 ghost use Rattle.melon_outside.specs.Causes.{Rose};
-ghost use Rattle.melon_outside.specs.Keeping.{Stores};
+ghost use Rattle.melon_outside.specs.SeenKeeper.{Later};
 ghost use Rattle.melon_script.specs.Script.{bad_line};
 ghost use Rattle.melon_cli.specs.Runs.{IsRun, Prints, PrintsFront, RunsWhole, RunsSoFar};
 
@@ -35,11 +35,12 @@ fn run_counted<W: Sink, K: Keeper, N: Ledger>(
     requires parts { counter.parts ≡ N.parts }
     requires shared { 0 < counter.parts }
     requires short { length script.now < 2 ^ 63 }
-    ensures done { result ≡ Status.Done → (bad_line script.now ≡ None) × RunsWhole script.now (K.holds keeper.old) (K.holds keeper.new) (W.written output.old) (W.written output.new) (K.faults keeper.old) (K.faults keeper.new) }
-    ensures bad_script { (line : ℕ) → result ≡ Status.BadScript line → (bad_line script.now ≡ Some line) × RunsWhole script.now (K.holds keeper.old) (K.holds keeper.new) (W.written output.old) (W.written output.new) (K.faults keeper.old) (K.faults keeper.new) }
-    ensures memory { result ≡ Status.Memory → RunsSoFar script.now (K.holds keeper.old) (K.holds keeper.new) (K.faults keeper.old) (K.faults keeper.new) (GrowsByFront (W.written output.old) (W.written output.new)) }
-    ensures write_fault { result ≡ Status.WriteFault → Rose (W.faults output.old) (W.faults output.new) × RunsSoFar script.now (K.holds keeper.old) (K.holds keeper.new) (K.faults keeper.old) (K.faults keeper.new) (GrowsByFront (W.written output.old) (W.written output.new)) }
-    ensures keeper_later { K.faults keeper.old ≤ K.faults keeper.new }
+    ensures done { result ≡ Status.Done → (bad_line script.now ≡ None) × RunsWhole script.now (K.seen keeper.old) (K.seen keeper.new) (W.written output.old) (W.written output.new) }
+    ensures bad_script { (line : ℕ) → result ≡ Status.BadScript line → (bad_line script.now ≡ Some line) × RunsWhole script.now (K.seen keeper.old) (K.seen keeper.new) (W.written output.old) (W.written output.new) }
+    ensures memory { result ≡ Status.Memory → RunsSoFar script.now (K.seen keeper.old) (K.seen keeper.new) (GrowsByFront (W.written output.old) (W.written output.new)) }
+    ensures write_fault { result ≡ Status.WriteFault → Rose (W.faults output.old) (W.faults output.new) × RunsSoFar script.now (K.seen keeper.old) (K.seen keeper.new) (GrowsByFront (W.written output.old) (W.written output.new)) }
+    ensures keeper_later { Later (K.seen keeper.old) (K.seen keeper.new) }
+    ensures output_later { W.faults output.old ≤ W.faults output.new }
     ensures words { result ≢ Status.BadWords }
     ensures read_fault { result ≢ Status.ReadFault }
     ensures too_long { result ≢ Status.TooLong }
@@ -63,11 +64,12 @@ fn run_script<W: Sink, K: Keeper>(
     keeper: &mut K,
 ) -> Status
     requires { length script.now < 2 ^ 63 }
-    ensures done { result ≡ Status.Done → (bad_line script.now ≡ None) × RunsWhole script.now (K.holds keeper.old) (K.holds keeper.new) (W.written output.old) (W.written output.new) (K.faults keeper.old) (K.faults keeper.new) }
-    ensures bad_script { (line : ℕ) → result ≡ Status.BadScript line → (bad_line script.now ≡ Some line) × RunsWhole script.now (K.holds keeper.old) (K.holds keeper.new) (W.written output.old) (W.written output.new) (K.faults keeper.old) (K.faults keeper.new) }
-    ensures memory { result ≡ Status.Memory → RunsSoFar script.now (K.holds keeper.old) (K.holds keeper.new) (K.faults keeper.old) (K.faults keeper.new) (GrowsByFront (W.written output.old) (W.written output.new)) }
-    ensures write_fault { result ≡ Status.WriteFault → Rose (W.faults output.old) (W.faults output.new) × RunsSoFar script.now (K.holds keeper.old) (K.holds keeper.new) (K.faults keeper.old) (K.faults keeper.new) (GrowsByFront (W.written output.old) (W.written output.new)) }
-    ensures keeper_later { K.faults keeper.old ≤ K.faults keeper.new }
+    ensures done { result ≡ Status.Done → (bad_line script.now ≡ None) × RunsWhole script.now (K.seen keeper.old) (K.seen keeper.new) (W.written output.old) (W.written output.new) }
+    ensures bad_script { (line : ℕ) → result ≡ Status.BadScript line → (bad_line script.now ≡ Some line) × RunsWhole script.now (K.seen keeper.old) (K.seen keeper.new) (W.written output.old) (W.written output.new) }
+    ensures memory { result ≡ Status.Memory → RunsSoFar script.now (K.seen keeper.old) (K.seen keeper.new) (GrowsByFront (W.written output.old) (W.written output.new)) }
+    ensures write_fault { result ≡ Status.WriteFault → Rose (W.faults output.old) (W.faults output.new) × RunsSoFar script.now (K.seen keeper.old) (K.seen keeper.new) (GrowsByFront (W.written output.old) (W.written output.new)) }
+    ensures keeper_later { Later (K.seen keeper.old) (K.seen keeper.new) }
+    ensures output_later { W.faults output.old ≤ W.faults output.new }
     ensures words { result ≢ Status.BadWords }
     ensures read_fault { result ≢ Status.ReadFault }
     ensures too_long { result ≢ Status.TooLong }
@@ -85,9 +87,9 @@ pub fn melon_run<S: Source, W: Sink, K: Keeper>(
     keeper: &mut K,
 ) -> Status
     // The text of every line was written, and what the machine keeps is kept.
-    ensures done { result ≡ Status.Done → Prints (S.left input.old) (S.left input.new) (W.written output.old) (W.written output.new) (K.holds keeper.old) (K.holds keeper.new) (K.faults keeper.old) (K.faults keeper.new) None }
+    ensures done { result ≡ Status.Done → Prints (S.left input.old) (S.left input.new) (W.written output.old) (W.written output.new) (K.seen keeper.old) (K.seen keeper.new) None }
     // The first line outside the grammar, the text of the lines before it, and what they keep.
-    ensures bad_script { (line : ℕ) → result ≡ Status.BadScript line → Prints (S.left input.old) (S.left input.new) (W.written output.old) (W.written output.new) (K.holds keeper.old) (K.holds keeper.new) (K.faults keeper.old) (K.faults keeper.new) (Some line) }
+    ensures bad_script { (line : ℕ) → result ≡ Status.BadScript line → Prints (S.left input.old) (S.left input.new) (W.written output.old) (W.written output.new) (K.seen keeper.old) (K.seen keeper.new) (Some line) }
     ensures bad_words { (result ≡ Status.BadWords) ↔ (IsRun words.now → ⊥) }
     ensures untouched { result ≡ Status.BadWords → (S.left input.new ≡ S.left input.old) × (W.written output.new ≡ W.written output.old) × (keeper.new ≡ keeper.old) }
     // The input failed before it was too long.
@@ -95,9 +97,12 @@ pub fn melon_run<S: Source, W: Sink, K: Keeper>(
     // With every other status fewer bytes were taken.
     ensures too_long { result ≡ Status.TooLong → TakesCount (S.left input.old) (S.left input.new) 16777217 × (W.written output.new ≡ W.written output.old) × (keeper.new ≡ keeper.old) }
     // A front of the text of some lines was written, and what the machine keeps after these lines is kept.
-    ensures write_fault { result ≡ Status.WriteFault → Rose (W.faults output.old) (W.faults output.new) × PrintsFront (S.left input.old) (S.left input.new) (W.written output.old) (W.written output.new) (K.holds keeper.old) (K.holds keeper.new) (K.faults keeper.old) (K.faults keeper.new) }
-    ensures memory { result ≡ Status.Memory → (TakesUpTo (S.left input.old) (S.left input.new) 16777216 × (W.written output.new ≡ W.written output.old) × (keeper.new ≡ keeper.old)) ⊎ PrintsFront (S.left input.old) (S.left input.new) (W.written output.old) (W.written output.new) (K.holds keeper.old) (K.holds keeper.new) (K.faults keeper.old) (K.faults keeper.new) }
-    ensures keeper_later { K.faults keeper.old ≤ K.faults keeper.new }
+    ensures write_fault { result ≡ Status.WriteFault → Rose (W.faults output.old) (W.faults output.new) × PrintsFront (S.left input.old) (S.left input.new) (W.written output.old) (W.written output.new) (K.seen keeper.old) (K.seen keeper.new) }
+    ensures memory { result ≡ Status.Memory → (TakesUpTo (S.left input.old) (S.left input.new) 16777216 × (W.written output.new ≡ W.written output.old) × (keeper.new ≡ keeper.old)) ⊎ PrintsFront (S.left input.old) (S.left input.new) (W.written output.old) (W.written output.new) (K.seen keeper.old) (K.seen keeper.new) }
+    // The counts never fall. Over a keeper that never fails the count stays, and the keeper never fails afterwards.
+    ensures keeper_later { Later (K.seen keeper.old) (K.seen keeper.new) }
+    ensures input_later { S.faults input.old ≤ S.faults input.new }
+    ensures output_later { W.faults output.old ≤ W.faults output.new }
 {
     if !is_run(words) {
         return Status::BadWords;

@@ -4,8 +4,10 @@ use Rattle.std.specs.Prelude.{Option, Some, None, if◌then◌else◌}
 use Rattle.std.proofs.lemmas.Slice.Eq.{bytes_eq-Decides}
 use Rattle.melon_outside.specs.Kept.{batched}
 use Rattle.melon_outside.specs.Keeping.{Stores, AreSame, Changes}
+use Rattle.melon_outside.specs.SeenKeeper.{SeenKeeper}
 use Rattle.melon_outside.specs.declared.kept.KeptBatch.{KeptBatch}
-use Rattle.melon_machine.specs.Calls.{Calls, Done, Load, Commit, asks, with_end, failures, RoseBy, after_batch, follow, Follows, Meets}
+use Rattle.melon_outside.proofs.SeenKeepers.{answered_none}
+use Rattle.melon_machine.specs.Calls.{Calls, Done, Load, Commit, asks, with_end, failures, RoseBy, after_batch, follow, Begins, Follows, Meets}
 
 -- ---- what is kept
 
@@ -72,8 +74,27 @@ rose_more xs ys before between now p q = omega (arith, p, q, failures_append xs 
 pub rose_none : (before now : ℕ) → before ≤ now → RoseBy 0 before now
 rose_none before now h = omega (arith, h)
 
+-- ---- calls that were begun
+
+-- nothing is begun but what is asked
+pub begins_end : {X Y : Type 0} (f : X → Y) (used : List Bool) (calls : Calls X) (was : Stores) → Begins used (with_end f calls) was → Begins used calls was
+begins_end f [] calls was h = tt
+begins_end f (o ∷ used) (Done x) was h = absurd h
+begins_end f (true ∷ used) (Load name does) was h = begins_end f used (does (Some (was name))) was h
+begins_end f (false ∷ used) (Load name does) was h = begins_end f used (does None) was h
+begins_end f (true ∷ used) (Commit name batch does) was h = absurd h
+begins_end f (false ∷ used) (Commit name batch does) was h = begins_end f used (does false) was h
+
+pub begins_with : {X Y : Type 0} (f : X → Y) (used : List Bool) (calls : Calls X) (was : Stores) → Begins used calls was → Begins used (with_end f calls) was
+begins_with f [] calls was h = tt
+begins_with f (o ∷ used) (Done x) was h = absurd h
+begins_with f (true ∷ used) (Load name does) was h = begins_with f used (does (Some (was name))) was h
+begins_with f (false ∷ used) (Load name does) was h = begins_with f used (does None) was h
+begins_with f (true ∷ used) (Commit name batch does) was h = absurd h
+begins_with f (false ∷ used) (Commit name batch does) was h = begins_with f used (does false) was h
+
 -- ---- a keeper that meets what it was asked
 
 -- it wasn't asked
-pub meets_done : {X : Type 0} (x : X) (holds : Stores → Type 0) (faults : ℕ) → Meets (Done x) holds holds faults faults x
-meets_done x holds faults m held = (m, held, [], (refl, refl, λ store. refl), omega arith)
+pub meets_done : {X : Type 0} (x : X) (k : SeenKeeper) → Meets (Done x) k k x
+meets_done x k m held = (m, held, [], (refl, refl, λ store. refl), omega arith, answered_none k)

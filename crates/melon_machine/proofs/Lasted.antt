@@ -1,5 +1,5 @@
 -- Each step leaves the machine sound, and so does a run.
-use Rattle.std.proofs.Common.{◌≡◌, ℕ, List, [], ◌∷◌, Bool, true, false, bytes_eq, refl, ap, sym, ◌∙◌, subst}
+use Rattle.std.proofs.Common.{◌≡◌, ℕ, List, [], ◌∷◌, ◌++◌, Bool, true, false, bytes_eq, refl, ap, sym, ◌∙◌, subst}
 use Rattle.std.specs.Prelude.{Option, Some, None, Result, Ok, Err, slice_get, if◌then◌else◌}
 use Rattle.serde_json.specs.Data.{Data}
 use Rattle.melon_schema.specs.Schema.{schema_of}
@@ -8,7 +8,7 @@ use Rattle.melon_schema.specs.declared.schema_fault.SchemaFault.{SchemaFault}
 use Rattle.melon_change.specs.Forms.{ops_of}
 use Rattle.melon_change.specs.declared.op.Op.{Op}
 use Rattle.melon_change.specs.declared.op.OpsFault.{OpsFault}
-use Rattle.melon_outside.specs.Kept.{batched}
+use Rattle.melon_outside.specs.Kept.{batched, is_in_order}
 use Rattle.melon_outside.specs.Keeping.{Stores}
 use Rattle.melon_outside.specs.declared.kept.Kept.{Kept}
 use Rattle.melon_outside.specs.declared.kept.KeptBatch.{KeptBatch}
@@ -24,13 +24,14 @@ use Rattle.melon_script.specs.SeenLine.{SeenLine}
 use Rattle.melon_script.specs.Script.{forms_in}
 use Rattle.melon_script.specs.declared.item.Item.{Item}
 use Rattle.melon_machine.specs.Apps.{Told, put_back, place_of, opens_by, opens_over, opens_under, open_fault, opens_unless, on_found, on_place, on_app, writes_by, writes, write_fault, writes_unless, write_app, enter_app, nest_app, leave_app, fetched, rows_shown, observe_app, watch_app, turn_app, drop_app, parent_shown, children_shown, looks, app_step}
-use Rattle.melon_machine.specs.Calls.{Calls, Done, Load, Commit, asks, with_end, next, after_next, after_batch, Followed, follow}
+use Rattle.melon_machine.specs.Calls.{Calls, Done, Load, Commit, asks, with_end, next, after_next, after_batch, Followed, follow, Follows}
 use Rattle.melon_machine.specs.Outcomes.{Stepped, stepped_as}
 use Rattle.melon_machine.specs.Run.{run_from, run}
 use Rattle.melon_machine.specs.Servers.{begins_by, begins_over, begins_under, backend_step}
 use Rattle.melon_machine.specs.Sound.{IsSoundApp, AreSoundApps, IsSoundIfOpen, IsSound, RunsAreSound}
 use Rattle.melon_machine.specs.State.{App, Machine, Server, server_store, with_history, with_log, none_open}
 use Rattle.melon_machine.specs.Step.{with_apps, with_server, step}
+use Rattle.melon_machine.proofs.Followed.{follow_exact}
 use Rattle.melon_machine.proofs.Lasting.{follow_end, app_step_lasts}
 use Rattle.melon_machine.proofs.Served.{backend_lasts}
 use Rattle.melon_machine.proofs.Whole.{by_line, app_line}
@@ -206,6 +207,14 @@ step_lasts m line kept h = by_line (λ (l : SeenLine). LeavesSound (step m l) ke
     }))
     (λ table outcomes. h) line
 
+-- so it is where the calls were made with exactly these outcomes
+pub step_followed : (m : Machine) (line : SeenLine) (kept : Stores) (used : List Bool) (s : Stepped Machine) (kept' : Stores) → IsSound m kept → Follows (step m line) kept used s kept' → IsSound s.after kept'
+step_followed m line kept used s kept' h f = subst (λ (r : Followed (Stepped Machine)). IsSound r.value.after r.kept) (follow_exact (step m line) kept used s kept' [] f) (step_lasts m line kept h (used ++ []))
+
+-- nothing is open
+pub none_sound : (kept : Stores) → ((name : List ℕ) → is_in_order (kept name) ≡ true) → IsSound none_open kept
+none_sound kept ordered = record { apps = record { ordered = ordered; different = tt; apps = tt }; server = tt }
+
 lines_last : (forms : List SeenLine) (m : Machine) (kept : Stores) (outcomes : List Bool) → IsSound m kept → IsSound (run_from m kept forms outcomes).after (run_from m kept forms outcomes).kept
 lines_last [] m kept outcomes h = h
 lines_last (line ∷ more) m kept outcomes h =
@@ -215,4 +224,4 @@ lines_last (line ∷ more) m kept outcomes h =
 pub runs_are_sound : RunsAreSound
 unfolding run
 runs_are_sound script kept outcomes ordered =
-    lines_last (forms_in script) none_open kept outcomes (record { apps = record { ordered = ordered; different = tt; apps = tt }; server = tt })
+    lines_last (forms_in script) none_open kept outcomes (none_sound kept ordered)

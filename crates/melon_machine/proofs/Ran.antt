@@ -7,13 +7,15 @@ use Rattle.melon_script.specs.Forms.{line_of, is_blank}
 use Rattle.melon_script.specs.Script.{forms_in, forms_of, first_form, bad_from, or_bad, IsLine}
 use Rattle.melon_script.specs.Printed.{answer_text}
 use Rattle.melon_script.specs.declared.item.Item.{Item}
-use Rattle.melon_machine.specs.Calls.{Calls, Done, Followed, Follows}
+use Rattle.melon_machine.specs.Calls.{Calls, Done, Followed, Follows, Begins}
 use Rattle.melon_machine.specs.Legal.{IsLegal, IsKeptAs}
 use Rattle.melon_machine.specs.State.{Machine, KeptMachine, kept_of, none_open}
 use Rattle.melon_machine.specs.Outcomes.{Stepped, ends_with}
 use Rattle.melon_machine.specs.Step.{step, kept_step, kept_calls}
+use Rattle.melon_machine.specs.Sound.{IsSound}
 use Rattle.melon_machine.specs.Run.{by_form, line_calls, Ran, prints_first, goes_on, run_from, run, ComesTo}
 use Rattle.melon_machine.proofs.Followed.{same_is, follow_exact, follows_end}
+use Rattle.melon_machine.proofs.Lasted.{step_followed}
 use Rattle.melon_machine.proofs.Legality.{always_follows}
 use Rattle.melon_machine.proofs.Whole.{step_legal}
 
@@ -29,7 +31,7 @@ prints_twice a b later = λ i. record { text = sym (append_assoc a b later.text)
 pub one_more : (script : List ℕ) (was : Stores) (used : List Bool) (printed : List ℕ) (now : Machine) (kept : Stores) (line : SeenLine) (more : List SeenLine)
     (taken : List Bool) (after : KeptMachine) (items : List Item) (kept' : Stores)
     → ComesTo script was used printed now kept (line ∷ more) → Follows (kept_calls (step now line)) kept taken (record { after = after; items = items }) kept'
-    → IsLegal now → (next : Machine) × IsKeptAs next after × ComesTo script was (used ++ taken) (printed ++ answer_text items) next kept' more
+    → IsLegal now → (next : Machine) × IsKeptAs next after × ComesTo script was (used ++ taken) (printed ++ answer_text items) next kept' more × (IsSound now kept → IsSound next kept')
 one_more script was used printed now kept line more taken after items kept' c f legal =
     let end = follows_end kept_step (step now line) kept taken (record { after = after; items = items }) kept' f in (
       end.0.after,
@@ -42,6 +44,7 @@ one_more script was used printed now kept line more taken after items kept' c f 
             ∙ ap (λ (said : List Item). prints_first printed (prints_first (answer_text said) (run_from end.0.after kept' more later))) (ap (λ (s : Stepped KeptMachine). s.items) end.1)
             ∙ prints_twice printed (answer_text items) (run_from end.0.after kept' more later);
       },
+      λ sound. step_followed now line kept taken end.0 kept' sound end.2,
     )
 
 -- nothing is left to run
@@ -70,11 +73,15 @@ calls_of_blank m bytes is = sym (calls_blank m bytes is)
 pub calls_of_line : (m : Machine) (bytes : List ℕ) (line : SeenLine) → is_blank bytes ≡ false → line_of bytes ≡ Some line → kept_calls (step m line) ≡ kept_calls (line_calls m bytes)
 calls_of_line m bytes line not_blank is = ap kept_calls (sym (calls_line m bytes line not_blank is))
 
+-- what is begun of a line is begun of its bytes
+pub begins_line : (m : Machine) (bytes : List ℕ) (line : SeenLine) (used : List Bool) (was : Stores) → is_blank bytes ≡ false → line_of bytes ≡ Some line → Begins used (step m line) was → Begins used (line_calls m bytes) was
+begins_line m bytes line used was not_blank is h = subst (λ (calls : Calls (Stepped Machine)). Begins used calls was) (sym (calls_line m bytes line not_blank is)) h
+
 -- a run that comes to a line of bytes comes to what follows it
 pub one_line_more : (script : List ℕ) (was : Stores) (used : List Bool) (printed : List ℕ) (now : Machine) (kept : Stores) (bytes : List ℕ) (more : List (List ℕ))
     (taken : List Bool) (after : KeptMachine) (items : List Item) (kept' : Stores) → IsLine bytes
     → ComesTo script was used printed now kept (forms_of (bytes ∷ more)) → Follows (kept_calls (line_calls now bytes)) kept taken (ends_with after items) kept' → IsLegal now
-    → (next : Machine) × IsKeptAs next after × ComesTo script was (used ++ taken) (printed ++ answer_text items) next kept' (forms_of more)
+    → (next : Machine) × IsKeptAs next after × ComesTo script was (used ++ taken) (printed ++ answer_text items) next kept' (forms_of more) × (IsSound now kept → IsSound next kept')
 one_line_more script was used printed now kept bytes more taken after items kept' (inl blank) c f legal =
     let done : Follows (Done (ends_with (kept_of now) [])) kept taken (ends_with after items) kept' =
     subst (λ (calls : Calls (Stepped KeptMachine)). Follows calls kept taken (ends_with after items) kept') (calls_blank now bytes blank) f in
@@ -86,6 +93,7 @@ one_line_more script was used printed now kept bytes more taken after items kept
       subst (λ (k : Stores). ComesTo script was (used ++ taken) (printed ++ answer_text items) now k (forms_of more)) (sym same)
           (subst (λ (u : List Bool). ComesTo script was u (printed ++ answer_text items) now kept (forms_of more)) (sym (append-nil used) ∙ ap (λ (u : List Bool). used ++ u) (sym done.0))
           (subst (λ (t : List ℕ). ComesTo script was used t now kept (forms_of more)) (sym (append-nil printed) ∙ ap (λ (i : List Item). printed ++ answer_text i) (sym quiet)) come)),
+      λ sound. subst (IsSound now) (sym same) sound,
     )
 one_line_more script was used printed now kept bytes more taken after items kept' (inr line) c f legal =
     one_more script was used printed now kept line.1.0 (forms_of more) taken after items kept'

@@ -2,6 +2,7 @@
 use Rattle.std.specs.Prelude.{◌≡◌, ℕ, ◌+◌, ◌-◌, ◌^◌, ◌≤◌, min, List, [], ◌∷◌, Bool, true, false, Option, Some, None, bytes_eq, if◌then◌else◌}
 use Rattle.melon_outside.specs.Kept.{batched, is_in_order}
 use Rattle.melon_outside.specs.Keeping.{Stores, AreSame}
+use Rattle.melon_outside.specs.SeenKeeper.{SeenKeeper, Answered}
 use Rattle.melon_outside.specs.declared.kept.Kept.{Kept}
 use Rattle.melon_outside.specs.declared.kept.KeptBatch.{KeptBatch}
 
@@ -71,7 +72,22 @@ Follows (Commit name batch does) was [] y now = ⊥
 Follows (Commit name batch does) was (true ∷ used) y now = Follows (does true) (after_batch name batch was) used y now
 Follows (Commit name batch does) was (false ∷ used) y now = Follows (does false) was used y now
 
--- A keeper that was asked so holds what the calls leave of what it held, and its count rose with each that failed.
-abbrev pub Meets : {X : Type 0} → Calls X → (Stores → Type 0) → (Stores → Type 0) → ℕ → ℕ → X → Type 0
-Meets calls before now faults_before faults_now x =
-    (m : Stores) → now m → (was : Stores) × before was × (used : List Bool) × Follows calls was used x m × RoseBy (failures used) faults_before faults_now
+-- These are the outcomes of the first calls, and no batch of theirs was done.
+abbrev pub Begins : {X : Type 0} → List Bool → Calls X → Stores → Type 0
+Begins [] calls was = Unit {0}
+Begins (o ∷ used) (Done x) was = ⊥
+Begins (true ∷ used) (Load name does) was = Begins used (does (Some (was name))) was
+Begins (false ∷ used) (Load name does) was = Begins used (does None) was
+Begins (true ∷ used) (Commit name batch does) was = ⊥
+Begins (false ∷ used) (Commit name batch does) was = Begins used (does false) was
+
+-- ---- a keeper that is asked
+
+-- It holds what the calls leave of what it held. Its count rose with each that failed, and their outcomes are what it answered.
+abbrev pub Meets : {X : Type 0} → Calls X → SeenKeeper → SeenKeeper → X → Type 0
+Meets calls before now x = (m : Stores) → now.holds m → (was : Stores) × before.holds was × (used : List Bool) × Follows calls was used x m × RoseBy (failures used) before.faults now.faults × Answered used before now
+
+-- It was asked for the first of the calls alone, and holds what it held.
+abbrev pub Interrupts : {X : Type 0} → Calls X → SeenKeeper → SeenKeeper → Type 0
+Interrupts calls before now =
+    (m : Stores) → now.holds m → (was : Stores) × before.holds was × AreSame m was × (used : List Bool) × Begins used calls was × RoseBy (failures used) before.faults now.faults × Answered used before now

@@ -10,8 +10,6 @@ mod patching;
 pub mod reloading;
 mod showing;
 pub mod simple;
-#[cfg(test)]
-mod tests;
 pub mod turning;
 
 pub use melon_views::{Emission, Shape, Shown, Turn};

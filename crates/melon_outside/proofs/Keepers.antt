@@ -1,16 +1,17 @@
 -- A keeper in memory against the trait.
-use Rattle.std.proofs.Common.{◌≡◌, ◌⊎◌, ℕ, ◌+◌, ◌-◌, ◌^◌, ◌≤◌, min, Bool, true, false, ◌||◌, List, [], ◌∷◌, Result, Ok, Err, nat_eq, nat_le, refl, sym, ap, ◌∙◌, inl, inr, arith}
+use Rattle.std.proofs.Common.{◌≡◌, ◌⊎◌, ℕ, Bool, true, false, ◌||◌, List, [], ◌∷◌, Result, Ok, Err, nat_eq, nat_le, refl, sym, ap, ◌∙◌, inl, inr, arith}
 use Rattle.std.proofs.lemmas.Bool.Decides.{nat_tests}
-use Rattle.std.specs.List.{list_any}
-use Rattle.std.specs.Prelude.{OnOk, OnErr, is_err}
+use Rattle.std.specs.Prelude.{OnOk, OnErr, IsErrOf, is_err}
 use Rattle.melon_outside.specs.declared.kept.KeptBatch.{KeptBatch}
-use Rattle.melon_outside.specs.Kept.{batched}
+use Rattle.melon_outside.specs.Kept.{batched, is_in_order}
 use Rattle.melon_outside.specs.declared.kept.Kept.{Kept}
 use Rattle.melon_outside.specs.declared.kept.KeptStore.{KeptStore}
 use Rattle.melon_outside.specs.Causes.{next_count}
 use Rattle.melon_outside.specs.Memory.{fails_next, fails_later}
-use Rattle.melon_outside.specs.Keeping.{Stores, AreSame, Changes, Committed, find, with_store, are_in_order}
-use Rattle.melon_outside.proofs.Found.{find-with_store, find-other, committed-in_order}
+use Rattle.melon_outside.specs.Keeping.{Stores, AreSame, Changes, find, with_store, are_in_order}
+use Rattle.melon_outside.specs.declared.keeper.KeeperError.{KeeperError}
+use Rattle.melon_outside.specs.SeenKeeper.{SeenKeeper, Loads, Commits}
+use Rattle.melon_outside.proofs.Found.{find-with_store, find-other, find-in_order, committed-in_order}
 
 -- ---- one store changed
 
@@ -20,14 +21,36 @@ changes_from f store stores was m p q = (
   λ other apart. q other ∙ find-other store (f (find stores store)) other stores apart ∙ sym (p other),
 )
 
-pub commit_done : (f : Kept → Kept) (store : List ℕ) (old now : List KeptStore) → now ≡ with_store store (f (find old store)) old → (m : Stores) → AreSame m (find now) → (was : Stores) × AreSame was (find old) × Changes f store was m
-commit_done f store old now e m p = (find old, λ name. refl, changes_from f store old (find old) m (λ name. refl) (λ name. p name ∙ ap (λ s. find s name) e))
+-- what a keeper in memory holds
+abbrev pub AreHeld : List KeptStore → Stores → Type 0
+AreHeld stores m = ((store : List ℕ) → is_in_order (m store) ≡ true) × AreSame m (find stores)
 
-pub commit_left : (f : Kept → Kept) (store : List ℕ) (old now : List KeptStore) → now ≡ with_store store (f (find old store)) old → (was : Stores) → AreSame was (find old) → (m : Stores) → AreSame m (find now) → AreSame m was ⊎ Changes f store was m
-commit_left f store old now e was q m p = inr (changes_from f store old was m q (λ name. p name ∙ ap (λ s. find s name) e))
+pub commit_done : (batch : KeptBatch) (store : List ℕ) (old now : List KeptStore) → now ≡ with_store store (batched batch (find old store)) old → are_in_order old ≡ true
+    → (m : Stores) → AreHeld now m → (was : Stores) × AreHeld old was × Changes (batched batch) store was m
+commit_done batch store old now e h m p = (
+  find old,
+  (λ name. find-in_order old name h, λ name. refl),
+  changes_from (batched batch) store old (find old) m (λ name. refl) (λ name. p.1 name ∙ ap (λ s. find s name) e),
+)
 
-pub kept_done : (old now : List KeptStore) → now ≡ old → (m : Stores) → AreSame m (find now) → (was : Stores) × AreSame was (find old) × AreSame m was
-kept_done old now e m p = (find old, λ name. refl, λ name. p name ∙ ap (λ s. find s name) e)
+pub commit_left : (batch : KeptBatch) (store : List ℕ) (old now : List KeptStore) → now ≡ with_store store (batched batch (find old store)) old
+    → (was : Stores) → AreHeld old was → (m : Stores) → AreSame m (find now) → AreSame m was ⊎ Changes (batched batch) store was m
+commit_left batch store old now e was q m p = inr (changes_from (batched batch) store old was m q.1 (λ name. p name ∙ ap (λ s. find s name) e))
+
+pub same_error : {T E : Type 0} {a b : E} → IsErrOf {T = T} (Err a) b → a ≡ b
+same_error {T} {E} {a} {b} h = cc
+
+-- a commit that does nothing is as a load that gives nothing
+pub commits_nothing : (batch : KeptBatch) (store : List ℕ) (e : KeeperError) (before now : SeenKeeper) → (now.honest → before.honest) → Loads store (Err e) before now → Commits batch store (Err e) before now
+commits_nothing batch store e before now honest loads = record {
+  done = λ m h. (m, loads.kept m h, λ name. refl);
+  leaves = λ was h left l. inl (loads.leaves was h left l);
+  was_honest = honest;
+  answered = loads.answered;
+  later = loads.later;
+  cause = λ h. loads.cause (ap Err (same_error h));
+  never = λ sound h. loads.never sound (ap Err (same_error h));
+}
 
 pub ordered_after : {E : Type 0} (name : List ℕ) (batch : KeptBatch) (old new : List KeptStore) (r : Result (Unit {0}) E) → OnOk r (new ≡ with_store name (batched batch (find old name)) old) → OnErr r (new ≡ old) → are_in_order old ≡ true → are_in_order new ≡ true
 ordered_after {E} name batch old new (Ok u) done kept h = ap are_in_order done ∙ committed-in_order name batch old h

@@ -5,5 +5,7 @@ pub mod Found
 pub mod Keepers
 pub mod Order
 pub mod Places
+pub mod SeenKeepers
+pub mod Sound
 pub mod Steps
 pub mod Stopped

@@ -1,7 +1,11 @@
 pub mod Ascending
+pub mod Asking
 pub mod Causes
+pub mod Conns
 pub mod Keeping
 pub mod Kept
 pub mod Memory
 pub mod Moves
+pub mod SeenKeeper
+pub mod SeenMemory
 pub mod Shelved

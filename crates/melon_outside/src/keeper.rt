@@ -1,9 +1,9 @@
 //! What keeps rows and values under the names of stores.
 
-ghost use Rattle.std.specs.Prelude.{◌≡◌, ◌⊎◌, ℕ, ◌≤◌, true, IfOk, OnOk, IsErrOf};
-ghost use Rattle.melon_outside.specs.Causes.{Rose};
-ghost use Rattle.melon_outside.specs.Kept.{batched, is_in_order};
-ghost use Rattle.melon_outside.specs.Keeping.{AreSame, Changes, Committed, Stores};
+ghost use Rattle.std.specs.Prelude.{◌≡◌, ℕ, Bool, true, List, length};
+ghost use Rattle.melon_outside.specs.Kept.{is_in_order};
+ghost use Rattle.melon_outside.specs.Keeping.{AreSame, Stores};
+ghost use Rattle.melon_outside.specs.SeenKeeper.{SeenKeeper, Loads, Commits, planned_to};
 
 use crate::kept::{Kept, KeptBatch};
 use std::alloc::{AllocError, Global};
@@ -27,51 +27,29 @@ impl From<AllocError> for KeeperError {
 
 /// A keeper of stores.
 pub trait Keeper {
-    /// It tells that it holds this.
-    ghost holds: { Self → Stores → Type 0 };
-
-    /// A stop may leave this.
-    ghost may_leave: { Self → Stores → Type 0 };
-
-    /// So far its disk gave back what was written.
-    ghost honest: { Self → Type 0 };
-
-    /// How often it has failed.
-    ghost faults: { Self → ℕ };
-
-    /// It never fails.
-    ghost sound: { Self → Type 0 };
+    /// What is seen of it.
+    ghost seen: { Self → SeenKeeper };
 
     /// Gives what is kept of a store, and leaves all that it holds.
     fn load(&mut self, alloc: Global, store: &str) -> Result<Kept, KeeperError>
-        ensures kept { (m : Stores) → holds self.new m → holds self.old m }
-        ensures found { (m : Stores) → holds self.new m → IfOk result (λ kept. kept ≡ m store.now) }
-        ensures ordered { IfOk result (λ kept. is_in_order kept ≡ true) }
-        ensures leaves { (was : Stores) → holds self.old was → (m : Stores) → may_leave self.new m → AreSame m was }
-        ensures goes_on { OnOk result (honest self.new → (was : Stores) → holds self.old was → holds self.new was) }
-        ensures later { faults self.old ≤ faults self.new }
-        ensures cause { IsErrOf result KeeperError.Failed → Rose (faults self.old) (faults self.new) }
-        ensures sound_stays { sound self.old → sound self.new }
-        ensures sound_count { sound self.old → faults self.new ≡ faults self.old }
-        ensures sound_never { sound self.old → IsErrOf result KeeperError.Failed → ⊥ };
+        ensures loads { Loads store.now result (seen self.old) (seen self.new) };
 
     /// Does all of the batch or, after an Err, nothing, and leaves the other stores.
     fn commit(&mut self, alloc: Global, store: &str, batch: &KeptBatch) -> Result<(), KeeperError>
-        ensures done { (m : Stores) → holds self.new m → (was : Stores) × holds self.old was × Committed (batched batch.now) store.now result was m }
-        ensures leaves { (was : Stores) → holds self.old was → (m : Stores) → may_leave self.new m → AreSame m was ⊎ Changes (batched batch.now) store.now was m }
-        ensures was_honest { honest self.new → honest self.old }
-        ensures later { faults self.old ≤ faults self.new }
-        ensures cause { IsErrOf result KeeperError.Failed → Rose (faults self.old) (faults self.new) }
-        ensures sound_stays { sound self.old → sound self.new }
-        ensures sound_count { sound self.old → faults self.new ≡ faults self.old }
-        ensures sound_never { sound self.old → IsErrOf result KeeperError.Failed → ⊥ };
+        ensures commits { Commits batch.now store.now result (seen self.old) (seen self.new) };
 
     /// What it holds is one contents.
-    ghost one: { (k : Self) (a b : Stores) → holds k a → holds k b → AreSame a b };
+    ghost one: { (k : Self) (a b : Stores) → (seen k).holds a → (seen k).holds b → AreSame a b };
 
     /// Between calls a stop leaves what it holds.
-    ghost between: { (k : Self) (m left : Stores) → holds k m → may_leave k left → AreSame left m };
+    ghost between: { (k : Self) (m left : Stores) → (seen k).holds m → (seen k).may_leave left → AreSame left m };
 
     /// What a stop leaves is told of an honest keeper alone.
-    ghost honestly: { (k : Self) (left : Stores) → may_leave k left → honest k };
+    ghost honestly: { (k : Self) (left : Stores) → (seen k).may_leave left → (seen k).honest };
+
+    /// What it holds of each store is in order.
+    ghost ordered: { (k : Self) (m : Stores) → (seen k).holds m → (store : List ℕ) → is_in_order (m store) ≡ true };
+
+    /// Its calls end as it tells that they are to.
+    ghost planned: { (k : Self) (fails : List ℕ) (all : List Bool) → (seen k).plan fails → (seen k).answered all → all ≡ planned_to fails (length all) };
 }

@@ -1,11 +1,11 @@
 //! A keeper in memory.
 
-ghost use Rattle.std.specs.Prelude.{◌≡◌, ◌⊎◌, ◌≤◌, ◌↔◌, [], true, false, OnOk, OnErr, IfOk, IsTrue, IsErrOf};
+ghost use Rattle.std.specs.Prelude.{◌≡◌, ◌↔◌, [], true, OnOk, OnErr, IfOk, IsTrue, IsErrOf};
 ghost use Rattle.std.proofs.Common.{sym, ◌∙◌};
-ghost use Rattle.melon_outside.specs.Causes.{Rose};
 ghost use Rattle.melon_outside.specs.Kept.{batched, is_in_order};
-ghost use Rattle.melon_outside.specs.Keeping.{AreSame, Changes, Committed, Stores, find, with_store, are_stores, are_in_order, call_fails, after_call};
-ghost use Rattle.melon_outside.specs.Memory.{fails_later};
+ghost use Rattle.melon_outside.specs.Keeping.{find, with_store, are_stores, are_in_order, call_fails, after_call};
+ghost use Rattle.melon_outside.specs.SeenKeeper.{Loads, Commits};
+ghost use Rattle.melon_outside.specs.SeenMemory.{seen_memory, planned_so};
 ghost use Rattle.melon_outside.specs.Shelved.{stores_of};
 
 use crate::kept::{Kept, KeptBatch, KeptStore};
@@ -107,66 +107,55 @@ fn commit_stores(
 }
 
 impl Keeper for MemoryKeeper {
-    ghost holds = { λ k m. AreSame m (find k.stores) };
+    ghost seen = { seen_memory };
 
-    ghost may_leave = { λ k m. AreSame m (find k.stores) };
+    ghost one = { λ k a b p q store. p.1 store ∙ sym (q.1 store) };
 
-    ghost honest = { λ _. Unit {0} };
-
-    ghost faults = { λ k. k.faults };
-
-    ghost sound = { λ k. fails_later k.fails k.calls ≡ false };
-
-    ghost one = { λ k a b p q store. p store ∙ sym (q store) };
-
-    ghost between = { λ k m left p q store. q store ∙ sym (p store) };
+    ghost between = { λ k m left p q store. q store ∙ sym (p.1 store) };
 
     ghost honestly = { λ _ _ _. tt };
+
+    ghost ordered = { λ k m p. p.0 };
+
+    ghost planned = { λ k fails all p q. planned_so k fails all p q.1 };
 
     fn load(&mut self, alloc: Global, store: &str) -> Result<Kept, KeeperError>
         ensures planned { IsErrOf result KeeperError.Failed ↔ IsTrue (call_fails self.old) }
         ensures gives { IfOk result (λ kept. kept ≡ find self.old.stores store.now) }
-        ensures moved { self.new ≡ after_call self.old self.old.stores }
-        ensures kept { (m : Stores) → AreSame m (find self.new.stores) → AreSame m (find self.old.stores) }
-        ensures found { (m : Stores) → AreSame m (find self.new.stores) → IfOk result (λ kept. kept ≡ m store.now) }
-        ensures ordered { IfOk result (λ kept. is_in_order kept ≡ true) }
-        ensures leaves { (was : Stores) → AreSame was (find self.old.stores) → (m : Stores) → AreSame m (find self.new.stores) → AreSame m was }
-        ensures goes_on { OnOk result (Unit {0} → (was : Stores) → AreSame was (find self.old.stores) → AreSame was (find self.new.stores)) }
-        ensures later { self.old.faults ≤ self.new.faults }
-        ensures cause { IsErrOf result KeeperError.Failed → Rose self.old.faults self.new.faults }
-        ensures sound_stays { fails_later self.old.fails self.old.calls ≡ false → fails_later self.new.fails self.new.calls ≡ false }
-        ensures sound_count { fails_later self.old.fails self.old.calls ≡ false → self.new.faults ≡ self.old.faults }
-        ensures sound_never { fails_later self.old.fails self.old.calls ≡ false → IsErrOf result KeeperError.Failed → ⊥ }
+        ensures moved { OnOk result (self.new ≡ after_call self.old self.old.stores) }
+        ensures failed { IsErrOf result KeeperError.Failed → self.new ≡ after_call self.old self.old.stores }
+        ensures memory { IsErrOf result KeeperError.Memory → self.new ≡ self.old }
+        ensures loads { Loads store.now result (seen_memory self.old) (seen_memory self.new) }
     {
+        let called = self.call;
         if count_call(&mut self.call, self.fails.as_slice()) {
             self.faults = self.faults.saturating_add(1);
             return Err(KeeperError::Failed);
         }
         match load_stores(&mut self.given, &mut self.shelves, alloc, store) {
             Ok(kept) => Ok(kept),
-            Err(_) => Err(KeeperError::Memory),
+            Err(_) => {
+                self.call = called;
+                Err(KeeperError::Memory)
+            }
         }
     }
 
     fn commit(&mut self, alloc: Global, store: &str, batch: &KeptBatch) -> Result<(), KeeperError>
         ensures planned { IsErrOf result KeeperError.Failed ↔ IsTrue (call_fails self.old) }
         ensures changed { OnOk result (self.new ≡ after_call self.old (with_store store.now (batched batch.now (find self.old.stores store.now)) self.old.stores)) }
-        ensures unchanged { OnErr result (self.new ≡ after_call self.old self.old.stores) }
-        ensures done { (m : Stores) → AreSame m (find self.new.stores) → (was : Stores) × AreSame was (find self.old.stores) × Committed (batched batch.now) store.now result was m }
-        ensures leaves { (was : Stores) → AreSame was (find self.old.stores) → (m : Stores) → AreSame m (find self.new.stores) → AreSame m was ⊎ Changes (batched batch.now) store.now was m }
-        ensures was_honest { Unit {0} → Unit {0} }
-        ensures later { self.old.faults ≤ self.new.faults }
-        ensures cause { IsErrOf result KeeperError.Failed → Rose self.old.faults self.new.faults }
-        ensures sound_stays { fails_later self.old.fails self.old.calls ≡ false → fails_later self.new.fails self.new.calls ≡ false }
-        ensures sound_count { fails_later self.old.fails self.old.calls ≡ false → self.new.faults ≡ self.old.faults }
-        ensures sound_never { fails_later self.old.fails self.old.calls ≡ false → IsErrOf result KeeperError.Failed → ⊥ }
+        ensures failed { IsErrOf result KeeperError.Failed → self.new ≡ after_call self.old self.old.stores }
+        ensures memory { IsErrOf result KeeperError.Memory → self.new ≡ self.old }
+        ensures commits { Commits batch.now store.now result (seen_memory self.old) (seen_memory self.new) }
     {
+        let called = self.call;
         if count_call(&mut self.call, self.fails.as_slice()) {
             self.faults = self.faults.saturating_add(1);
             return Err(KeeperError::Failed);
         }
         let (given, shelves) = (&mut self.given, &mut self.shelves);
         if commit_stores(given, shelves, alloc, store, batch).is_err() {
+            self.call = called;
             return Err(KeeperError::Memory);
         }
         Ok(())

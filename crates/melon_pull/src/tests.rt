@@ -62,35 +62,53 @@ mod tests {
     const MINE: &str =
         r#"{"_changed":"title","_status":"updated","body":"b","id":"p1","score":1,"title":"mine"}"#;
 
+    /// The columns of the record and the fields that came resolve so.
+    fn resolves(
+        alloc: Global,
+        table: &TableSchema,
+        local: &str,
+        fields: &str,
+        wanted: &str,
+    ) -> Result<(), Fail> {
+        if resolved(alloc, table, local, fields)?.as_str() != wanted {
+            return Err(Fail::from(fields));
+        }
+        Ok(())
+    }
+
     #[test]
     fn resolves_each_column(rt: HostRuntime) -> Result<(), Fail> {
         let alloc = rt.alloc();
         let schema = schema_of(alloc)?;
         assert_eq!(rt; schema.len(), 1);
-        for (local, fields, want) in [
-            (
-                MINE,
-                r#"{"title":"t2","body":"b2"}"#,
-                r#"{"_changed":"title","_status":"updated","body":"b2","id":"p1","score":1,"title":"mine"}"#,
-            ),
-            (MINE, r#"{"title":"t2","likes":3}"#, MINE),
-            (
-                MINE,
-                r#"{"body":null,"score":"9"}"#,
-                r#"{"_changed":"title","_status":"updated","body":"","id":"p1","score":null,"title":"mine"}"#,
-            ),
-            (
-                r#"{"_changed":"","_status":"synced","body":"b","id":"p1","score":1,"title":"a"}"#,
-                r#"{"title":"t2","score":2}"#,
-                r#"{"_changed":"","_status":"synced","body":"b","id":"p1","score":2,"title":"t2"}"#,
-            ),
-        ] {
-            assert_eq!(rt;
-                resolved(alloc, schema.at(0), local, fields)?.as_str(),
-                want,
-                "{fields}"
-            );
-        }
+        resolves(
+            alloc,
+            schema.at(0),
+            MINE,
+            r#"{"title":"t2","body":"b2"}"#,
+            r#"{"_changed":"title","_status":"updated","body":"b2","id":"p1","score":1,"title":"mine"}"#,
+        )?;
+        resolves(
+            alloc,
+            schema.at(0),
+            MINE,
+            r#"{"title":"t2","likes":3}"#,
+            MINE,
+        )?;
+        resolves(
+            alloc,
+            schema.at(0),
+            MINE,
+            r#"{"body":null,"score":"9"}"#,
+            r#"{"_changed":"title","_status":"updated","body":"","id":"p1","score":null,"title":"mine"}"#,
+        )?;
+        resolves(
+            alloc,
+            schema.at(0),
+            r#"{"_changed":"","_status":"synced","body":"b","id":"p1","score":1,"title":"a"}"#,
+            r#"{"title":"t2","score":2}"#,
+            r#"{"_changed":"","_status":"synced","body":"b","id":"p1","score":2,"title":"t2"}"#,
+        )?;
         Ok(())
     }
 
@@ -211,37 +229,44 @@ mod tests {
     const TAKEN: &str =
         r#"{"_changed":"title","_status":"updated","body":"b2","id":"p1","score":1,"title":"mine"}"#;
 
+    /// This becomes of the post where these lists have it.
+    fn takes(
+        alloc: Global,
+        schema: &AppSchema,
+        local: &str,
+        lists: &[&str],
+        wanted: &str,
+    ) -> Result<(), Fail>
+        requires { 0 < length schema.now.tables }
+    {
+        let changes = changes_of(alloc, lists, REMOTE)?;
+        if taken(alloc, schema, local, &changes)?.as_str() != wanted {
+            return Err(Fail::from(wanted));
+        }
+        Ok(())
+    }
+
     #[test]
     fn takes_in_each_record(rt: HostRuntime) -> Result<(), Fail> {
         let alloc = rt.alloc();
         let schema = schema_of(alloc)?;
         assert_eq!(rt; schema.len(), 1);
-        for (local, lists, want) in [
-            ("", ["created"], BORN),
-            ("", ["updated"], BORN),
-            ("", ["deleted"], "no change"),
-            ("", [""], "no change"),
-            (NEW, ["created"], NEW_TAKEN),
-            (NEW, ["deleted"], "none"),
-            (MINE, ["created"], TAKEN),
-            (MINE, ["updated"], TAKEN),
-            (MINE, ["deleted"], "none"),
-            (MINE, [""], "no change"),
-            (SYNCED, ["created"], "no change"),
-            (SYNCED, ["updated"], "no change"),
-            (GONE, ["created"], BORN),
-            (GONE, ["updated"], "no change"),
-            (GONE, ["deleted"], "none"),
-            (GONE, [""], "no change"),
-        ] {
-            let changes = changes_of(alloc, lists.as_slice(), REMOTE)?;
-            assert_eq!(rt;
-                taken(alloc, &schema, local, &changes)?.as_str(),
-                want,
-                "{local} {}",
-                lists[0]
-            );
-        }
+        takes(alloc, &schema, "", &["created"], BORN)?;
+        takes(alloc, &schema, "", &["updated"], BORN)?;
+        takes(alloc, &schema, "", &["deleted"], "no change")?;
+        takes(alloc, &schema, "", &[""], "no change")?;
+        takes(alloc, &schema, NEW, &["created"], NEW_TAKEN)?;
+        takes(alloc, &schema, NEW, &["deleted"], "none")?;
+        takes(alloc, &schema, MINE, &["created"], TAKEN)?;
+        takes(alloc, &schema, MINE, &["updated"], TAKEN)?;
+        takes(alloc, &schema, MINE, &["deleted"], "none")?;
+        takes(alloc, &schema, MINE, &[""], "no change")?;
+        takes(alloc, &schema, SYNCED, &["created"], "no change")?;
+        takes(alloc, &schema, SYNCED, &["updated"], "no change")?;
+        takes(alloc, &schema, GONE, &["created"], BORN)?;
+        takes(alloc, &schema, GONE, &["updated"], "no change")?;
+        takes(alloc, &schema, GONE, &["deleted"], "none")?;
+        takes(alloc, &schema, GONE, &[""], "no change")?;
         Ok(())
     }
 
@@ -255,16 +280,30 @@ mod tests {
         Ok(fields)
     }
 
+    /// This becomes of the deleted post where a title of so many letters came.
+    fn takes_long(
+        alloc: Global,
+        schema: &AppSchema,
+        letters: usize,
+        wanted: &str,
+    ) -> Result<(), Fail>
+        requires { 0 < length schema.now.tables }
+    {
+        let fields = long_title(alloc, letters)?;
+        let changes = changes_of(alloc, &["updated"], fields.as_str())?;
+        if taken(alloc, schema, GONE, &changes)?.as_str() != wanted {
+            return Err(Fail::from(wanted));
+        }
+        Ok(())
+    }
+
     #[test]
     fn refuses_a_long_text_that_would_not_be_taken(rt: HostRuntime) -> Result<(), Fail> {
         let alloc = rt.alloc();
         let schema = schema_of(alloc)?;
         assert_eq!(rt; schema.len(), 1);
-        for (letters, want) in [(65536, "no change"), (65537, "long posts p1 title")] {
-            let fields = long_title(alloc, letters)?;
-            let changes = changes_of(alloc, ["updated"].as_slice(), fields.as_str())?;
-            assert_eq!(rt; taken(alloc, &schema, GONE, &changes)?.as_str(), want);
-        }
+        takes_long(alloc, &schema, 65536, "no change")?;
+        takes_long(alloc, &schema, 65537, "long posts p1 title")?;
         Ok(())
     }
 
@@ -273,17 +312,10 @@ mod tests {
         let alloc = rt.alloc();
         let schema = schema_of(alloc)?;
         assert_eq!(rt; schema.len(), 1);
-        for lists in [
-            ["created", "deleted"],
-            ["created", "updated"],
-            ["updated", "updated"],
-        ] {
-            let changes = changes_of(alloc, lists.as_slice(), REMOTE)?;
-            assert_eq!(rt;
-                taken(alloc, &schema, MINE, &changes)?.as_str(),
-                "repeated posts p1"
-            );
-        }
+        let twice = "repeated posts p1";
+        takes(alloc, &schema, MINE, &["created", "deleted"], twice)?;
+        takes(alloc, &schema, MINE, &["created", "updated"], twice)?;
+        takes(alloc, &schema, MINE, &["updated", "updated"], twice)?;
         Ok(())
     }
 }

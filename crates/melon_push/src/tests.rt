@@ -178,56 +178,78 @@ mod tests {
         text_after(alloc, schema.at(0), set.as_slice())
     }
 
+    /// The row is settled so.
+    fn settles(
+        alloc: Global,
+        schema: &AppSchema,
+        was: &str,
+        now: &str,
+        wanted: &str,
+    ) -> Result<(), Fail>
+        requires { 0 < length schema.now.tables }
+    {
+        if settled(alloc, schema, was, now)?.as_str() != wanted {
+            return Err(Fail::from(wanted));
+        }
+        Ok(())
+    }
+
     #[test]
     fn settles_what_still_stands(rt: HostRuntime) -> Result<(), Fail> {
         let alloc = rt.alloc();
         let schema = schema_of(alloc)?;
         assert_eq!(rt; schema.len(), 1);
-        for (was, now, want) in [
-            (
-                CREATED,
-                CREATED,
-                r#"{"_changed":"","_status":"synced","body":"b","id":"p1","title":"a"}"#,
-            ),
-            (
-                UPDATED,
-                UPDATED,
-                r#"{"_changed":"","_status":"synced","body":"b","id":"p2","title":"a"}"#,
-            ),
-            (
-                UPDATED,
-                r#"{"_changed":"title","_status":"updated","body":"b","id":"p2","title":"b"}"#,
-                "no change",
-            ),
-            (
-                UPDATED,
-                r#"{"_changed":"title,body","_status":"updated","body":"b","id":"p2","title":"a"}"#,
-                "no change",
-            ),
-            (
-                UPDATED,
-                r#"{"_changed":"title","_status":"deleted","body":"b","id":"p2","title":"a"}"#,
-                "no change",
-            ),
-            (DELETED, DELETED, "none"),
-            (
-                DELETED,
-                r#"{"_changed":"","_status":"synced","body":"b","id":"p3","title":"a"}"#,
-                "no change",
-            ),
-            (
-                DELETED,
-                r#"{"_changed":"","_status":"created","body":"b","id":"p3","title":"c"}"#,
-                "no change",
-            ),
-            (SYNCED, SYNCED, "no change"),
-        ] {
-            assert_eq!(rt;
-                settled(alloc, &schema, was, now)?.as_str(),
-                want,
-                "{was} {now}"
-            );
-        }
+        settles(
+            alloc,
+            &schema,
+            CREATED,
+            CREATED,
+            r#"{"_changed":"","_status":"synced","body":"b","id":"p1","title":"a"}"#,
+        )?;
+        settles(
+            alloc,
+            &schema,
+            UPDATED,
+            UPDATED,
+            r#"{"_changed":"","_status":"synced","body":"b","id":"p2","title":"a"}"#,
+        )?;
+        settles(
+            alloc,
+            &schema,
+            UPDATED,
+            r#"{"_changed":"title","_status":"updated","body":"b","id":"p2","title":"b"}"#,
+            "no change",
+        )?;
+        settles(
+            alloc,
+            &schema,
+            UPDATED,
+            r#"{"_changed":"title,body","_status":"updated","body":"b","id":"p2","title":"a"}"#,
+            "no change",
+        )?;
+        settles(
+            alloc,
+            &schema,
+            UPDATED,
+            r#"{"_changed":"title","_status":"deleted","body":"b","id":"p2","title":"a"}"#,
+            "no change",
+        )?;
+        settles(alloc, &schema, DELETED, DELETED, "none")?;
+        settles(
+            alloc,
+            &schema,
+            DELETED,
+            r#"{"_changed":"","_status":"synced","body":"b","id":"p3","title":"a"}"#,
+            "no change",
+        )?;
+        settles(
+            alloc,
+            &schema,
+            DELETED,
+            r#"{"_changed":"","_status":"created","body":"b","id":"p3","title":"c"}"#,
+            "no change",
+        )?;
+        settles(alloc, &schema, SYNCED, SYNCED, "no change")?;
         Ok(())
     }
 }

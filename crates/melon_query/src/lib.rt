@@ -10,7 +10,6 @@ mod query_reader;
 mod resolve;
 mod shown;
 mod simple;
-mod tests;
 
 pub use cond_form::{CompareForm, CondForm, RightForm};
 pub use query::{Col, Compare, CompareOp, Cond, Join, Joined, Query, Right, SortKey};

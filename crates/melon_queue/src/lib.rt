@@ -2,7 +2,5 @@
 #![tactic(auto)]
 
 pub mod queue;
-#[cfg(test)]
-mod tests;
 
 pub use queue::{Left, Queue, QueueFault};

@@ -8,7 +8,6 @@ pub mod id;
 pub mod marks;
 pub mod raw;
 pub mod steps;
-mod tests;
 
 pub use datum::{Datum, OpField, sanitise};
 pub use decoding::encoding_is_unique;

@@ -1,10 +1,8 @@
-//! Scripts and what they print, as tables of tests over the top calls.
+//! Runs whose source, sink or keeper fails, as tests over the top calls. What scripts print stands in tests/ at the top.
 #![tactic(auto)]
 
 #[cfg(test)]
-mod conditions;
-#[cfg(test)]
-mod queries;
+mod cells;
 #[cfg(test)]
 mod runs;
 #[cfg(test)]

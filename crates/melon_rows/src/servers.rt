@@ -1,6 +1,6 @@
-//! Scripts of the server: its opening, and its rows.
-use crate::runs::{expect, script};
-use crate::trial::{CALM, Outside, ends_over};
+//! Runs of the server over a keeper that fails, and over what was pushed.
+use crate::runs::{keeper_fails, must_end, script};
+use crate::trial::{CALM, ends_over};
 use melon_backend::Backend;
 use melon_backend::laws::read_changes_can_be_pushed;
 use melon_cli::Status;
@@ -20,39 +20,16 @@ const BACKEND: &str =
 const LATER: &str =
     r#"{"do":"backend","schema":{"version":2,"tables":[{"name":"posts","columns":[{"name":"title","type":"string"}]}]}}"#;
 
-const NO_SCHEMA: &str = r#"{"do":"backend","schema":{"version":0,"tables":[]}}"#;
-
 const POSTS: &str = r#"{"do":"server","table":"posts"}"#;
 
 const TAGS: &str = r#"{"do":"server","table":"tags"}"#;
 
-const NOTES: &str = r#"{"do":"server","table":"notes"}"#;
-
-#[test]
-fn a_server_is_opened_once(rt: HostRuntime) -> Result<(), Fail> {
-    let lines = [POSTS, NO_SCHEMA, BACKEND, POSTS, NOTES, LATER, BACKEND];
-    expect(
-        &rt,
-        &lines,
-        &CALM,
-        Status::Done,
-        "refused backend 2\nrefused schema 1\nbackend revision 1\nserver posts revision 1 []\nrefused table 1 \"notes\"\nrefused backend 1\nrefused backend 1\n",
-    )
-}
-
 #[test]
 fn a_failing_keeper_opens_no_server(rt: HostRuntime) -> Result<(), Fail> {
-    let failing = Outside {
-        keeper_fails: &[1, 3],
-        ..CALM
-    };
-    expect(
-        &rt,
-        &[BACKEND, BACKEND, POSTS, BACKEND, POSTS],
-        &failing,
-        Status::Done,
-        "refused keeper 1\nrefused keeper 1\nrefused backend 2\nbackend revision 1\nserver posts revision 1 []\n",
-    )
+    let lines = [BACKEND, BACKEND, POSTS, BACKEND, POSTS];
+    let text =
+        "refused keeper 1\nrefused keeper 1\nrefused backend 2\nbackend revision 1\nserver posts revision 1 []\n";
+    keeper_fails(rt.alloc(), &[1, 3], &lines, text)
 }
 
 fn push<K: Keeper>(
@@ -86,18 +63,24 @@ fn pushed_twice(alloc: Global) -> Result<MemoryKeeper, Fail> {
     Ok(keeper)
 }
 
+fn kept_shows<K: Keeper>(
+    alloc: Global,
+    keeper: &mut K,
+    lines: &[&str],
+    text: &str,
+) -> Result<(), Fail> {
+    let bytes = script(alloc, lines)?;
+    let ended = ends_over(alloc, &["run"], bytes, &CALM, keeper)?;
+    must_end(ended, Status::Done, text)
+}
+
 #[test]
 fn a_servers_rows_are_shown_as_they_are_kept(rt: HostRuntime) -> Result<(), Fail> {
     let alloc = rt.alloc();
     let mut keeper = pushed_twice(alloc)?;
-    let bytes = script(alloc, &[BACKEND, POSTS, TAGS])?;
-    let (ended, text) = ends_over(alloc, &["run"], bytes, &CALM, &mut keeper)?;
-    assert_eq!(rt; ended, Status::Done);
-    let want =
+    let text =
         "backend revision 3\nserver posts revision 3 [{\"changed\":2,\"created\":2,\"deleted\":3,\"row\":{\"id\":\"p1\"}},{\"changed\":3,\"created\":2,\"deleted\":null,\"row\":{\"id\":\"p2\",\"title\":\"c\"}}]\nserver tags revision 3 [{\"changed\":2,\"created\":2,\"deleted\":null,\"row\":{\"id\":\"t1\",\"label\":\"x\"}}]\n";
-    assert_eq!(rt; text.as_str(), want);
-    let bytes = script(alloc, &[LATER])?;
-    let (_, text) = ends_over(alloc, &["run"], bytes, &CALM, &mut keeper)?;
-    assert_eq!(rt; text.as_str(), "refused open 1 \"tags\" \"t1\"\n");
-    Ok(())
+    kept_shows(alloc, &mut keeper, &[BACKEND, POSTS, TAGS], text)?;
+    let text = "refused open 1 \"tags\" \"t1\"\n";
+    kept_shows(alloc, &mut keeper, &[LATER], text)
 }

@@ -1,4 +1,5 @@
 pub mod Each
 pub mod Named
+pub mod Sounding
 pub mod TidyBack
 pub mod Utf8

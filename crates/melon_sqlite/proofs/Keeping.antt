@@ -1,13 +1,19 @@
 -- What the keeper tells after a call.
-use Rattle.std.proofs.Common.{◌≡◌, ◌⊎◌, inl, inr, ℕ, Bool, true, false, not, List, refl, sym, ap, ◌∙◌, IsTrue, arith}
+use Rattle.std.proofs.Common.{◌≡◌, ◌⊎◌, inl, inr, ℕ, ◌≤◌, Bool, true, false, not, List, Result, IfOk, OnOk, IsErrOf, refl, sym, ap, ◌∙◌, IsTrue, arith}
 use Rattle.sqlite_trees.specs.Tree.{Trees}
 use Rattle.sqlite.specs.Effect.{Database}
 use Rattle.sqlite.specs.State.{State, HasCleanDisk, Survives}
 use Rattle.melon_outside.specs.declared.kept.Kept.{Kept}
-use Rattle.melon_outside.specs.Keeping.{Changes, Stores, AreSame}
+use Rattle.melon_outside.specs.declared.kept.KeptBatch.{KeptBatch}
+use Rattle.melon_outside.specs.declared.keeper.KeeperError.{KeeperError}
+use Rattle.melon_outside.specs.declared.keeper.KeeperError.TheVariants.{Failed}
+use Rattle.melon_outside.specs.Causes.{Rose}
+use Rattle.melon_outside.specs.Kept.{batched, is_in_order}
+use Rattle.melon_outside.specs.Keeping.{Changes, Committed, Stores, AreSame}
+use Rattle.melon_outside.specs.SeenKeeper.{Later, Loads, Commits}
 use Rattle.melon_sqlite.specs.Contents.{stores_in}
 use Rattle.melon_sqlite.specs.Statements.{StaysShut}
-use Rattle.melon_sqlite.specs.Telling.{TellsIn, GoesOnIn, HoldsIn, Knows, LeavesIn, StaysIdle}
+use Rattle.melon_sqlite.specs.Telling.{TellsIn, GoesOnIn, HoldsIn, Knows, LeavesIn, StaysIdle, seen_in}
 use Rattle.melon_sqlite.specs.Transactions.{Idle, Whole}
 
 pub outside_from : (b r : Bool) → r ≡ not b → r ≡ true → b ≡ false
@@ -93,3 +99,37 @@ load_goes_on fits old new store kept knows loads stays clean was h =
     let T = load_tells fits old new store kept knows loads h.0 clean in
     let r = stays clean I T.is_open in
     (T, λ one. h.1 one ∙ here old I one ∙ sym (ap (λ (d : Database). stores_in d.trees one) r.1) ∙ sym (here new r.0 one))
+
+-- ---- the same as it is seen
+
+module _ (fits : Bool) (old new : State) (before now : ℕ) where
+  later_seen : before ≤ now → Later (seen_in fits old before) (seen_in fits new now)
+  later_seen count = record { count = count; sound = λ never. never; same = λ never. absurd never; plan = λ fails never. never }
+
+  pub loads_seen : (store : List ℕ) (result : Result Kept KeeperError) → ((m : Stores) → HoldsIn fits new m → HoldsIn fits old m) → ((m : Stores) → HoldsIn fits new m → IfOk result (λ kept. kept ≡ m store)) → IfOk result (λ kept. is_in_order kept ≡ true)
+      → ((was : Stores) → HoldsIn fits old was → (left : Stores) → LeavesIn new left → AreSame left was) → OnOk result (HasCleanDisk new → (was : Stores) → HoldsIn fits old was → HoldsIn fits new was)
+      → before ≤ now → (IsErrOf result Failed → Rose before now) → Loads store result (seen_in fits old before) (seen_in fits new now)
+  loads_seen store result kept found ordered leaves goes_on count cause = record {
+    kept = kept;
+    found = found;
+    ordered = ordered;
+    leaves = leaves;
+    goes_on = goes_on;
+    answered = λ all never. absurd never;
+    later = later_seen count;
+    cause = cause;
+    never = λ never h. never;
+  }
+
+  pub commits_seen : (batch : KeptBatch) (store : List ℕ) (result : Result (Unit {0}) KeeperError) → ((m : Stores) → HoldsIn fits new m → (was : Stores) × HoldsIn fits old was × Committed (batched batch) store result was m)
+      → ((was : Stores) → HoldsIn fits old was → (left : Stores) → LeavesIn new left → AreSame left was ⊎ Changes (batched batch) store was left) → (HasCleanDisk new → HasCleanDisk old)
+      → before ≤ now → (IsErrOf result Failed → Rose before now) → Commits batch store result (seen_in fits old before) (seen_in fits new now)
+  commits_seen batch store result done leaves honest count cause = record {
+    done = done;
+    leaves = leaves;
+    was_honest = honest;
+    answered = λ all never. absurd never;
+    later = later_seen count;
+    cause = cause;
+    never = λ never h. never;
+  }

@@ -1,6 +1,7 @@
 -- What a keeper over SQLite tells, and what a stop may leave.
-use Rattle.std.specs.Prelude.{◌≡◌, ◌⊎◌, ℕ, ◌^◌, Bool, not, false, List, Result, Ok, Err, IsTrue, nat_lt, refl}
-use Rattle.std.proofs.Common.{ap, sym, ◌∙◌}
+use Rattle.std.specs.Prelude.{◌≡◌, ◌⊎◌, ℕ, ◌^◌, Bool, not, ◌&&◌, true, false, List, [], map, Result, Ok, Err, IsTrue, nat_lt, refl}
+use Rattle.std.proofs.Common.{ap, ap₂, sym, ◌∙◌}
+use Rattle.std.proofs.lemmas.Cmp.{nat_list_cmp_total}
 use Rattle.std.specs.List.{list_any}
 use Rattle.std.specs.Coded.{Coded, code_by, coded×, coded_ℕ, coded_bool}
 use Rattle.sqlite_trees.specs.Tree.{Trees}
@@ -11,7 +12,11 @@ use Rattle.sqlite.specs.State.{State, HasCleanDisk}
 use Rattle.melon_outside.specs.declared.kept.Kept.{Kept}
 use Rattle.melon_outside.specs.declared.kept.KeptValue.{KeptValue}
 use Rattle.melon_outside.specs.Keeping.{AreSame, Stores}
-use Rattle.melon_sqlite.specs.Contents.{stores_in}
+use Rattle.melon_outside.specs.Kept.{key_cmp, key_of, name_of, text_cmp, is_in_order}
+use Rattle.melon_outside.specs.SeenKeeper.{SeenKeeper}
+use Rattle.melon_outside.proofs.Order.{up, up_withs, ascends-up}
+use Rattle.melon_outside.proofs.Places.{key_total}
+use Rattle.melon_sqlite.specs.Contents.{of_store, row_of, value_of, rows_tree, values_tree, stores_in}
 use Rattle.melon_sqlite.specs.Transactions.{Idle}
 
 -- a keeper: its connection, whether the schema was exactly that of the two tables as it was opened, and its count of faults
@@ -50,6 +55,18 @@ settles fits s law m left h l = λ store. l.3 store ∙ ap (λ (t : Trees). stor
 abbrev pub Knows : Bool → State → Type 0
 Knows fits s = TellsIn fits s → Idle s
 
+-- what the tables keep of a store is in order
+stores-in_order : (trees : Trees) (store : List ℕ) → is_in_order (stores_in trees store) ≡ true
+stores-in_order trees store =
+    let rows = map row_of (of_store store (trees rows_tree)) in
+    let values = map value_of (of_store store (trees values_tree)) in
+    ap₂ ◌&&◌
+    (ascends-up key_cmp key_of key_total _ (up_withs key_cmp key_of key_total rows [] (up key_cmp key_of key_total [] refl)))
+    (ascends-up text_cmp name_of nat_list_cmp_total _ (up_withs text_cmp name_of nat_list_cmp_total values [] (up text_cmp name_of nat_list_cmp_total [] refl)))
+
+pub held_in_order : (fits : Bool) (s : State) (m : Stores) → HoldsIn fits s m → (store : List ℕ) → is_in_order (m store) ≡ true
+held_in_order fits s m h store = ap is_in_order (h.1 store) ∙ stores-in_order s.committed.trees store
+
 -- a keeper that tells goes on telling, unless the disk was caught lying or failed
 abbrev pub GoesOnIn : Bool → State → State → Type 0
 GoesOnIn fits old new = TellsIn fits old → HasCleanDisk new → TellsIn fits new ⊎ MoreFaults old.faults new.faults
@@ -64,6 +81,18 @@ StaysIdle old new = Idle old → IsTrue new.is_open → Idle new × (new.now ≡
 -- a number that no column of integers can hold
 abbrev pub has_big : List KeptValue → Bool
 has_big values = list_any (λ v. not (nat_lt v.number (2 ^ 63))) values
+
+-- It tells nothing of its outcomes, and may always fail.
+abbrev pub seen_in : Bool → State → ℕ → SeenKeeper
+seen_in fits s faults = record {
+  holds = HoldsIn fits s;
+  answered = λ _. ⊥;
+  plan = λ _. ⊥;
+  may_leave = LeavesIn s;
+  honest = HasCleanDisk s;
+  sound = ⊥;
+  faults = faults;
+}
 
 -- ---- the same of a keeper, over the store of its connection
 
@@ -80,6 +109,9 @@ module _ {S : Type 0} (g : Ghosts S) where
 
   abbrev pub MayLeave : Seen S → Stores → Type 0
   MayLeave k m = LeavesIn (shown k) m
+
+  abbrev pub seen_keeper : Seen S → SeenKeeper
+  seen_keeper k = seen_in k.fits (shown k) k.faults
 
   abbrev pub GoesOn : Seen S → Seen S → Type 0
   GoesOn old new = GoesOnIn old.fits (shown old) (shown new)

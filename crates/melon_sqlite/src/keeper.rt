@@ -1,16 +1,16 @@
 //! The keeper over a connection.
 
-ghost use Rattle.std.specs.Prelude.{◌≡◌, ◌⊎◌, ◌≤◌, ◌↔◌, true, false, IsTrue, IfOk, OnOk, IsErrOf, Err};
+ghost use Rattle.std.specs.Prelude.{◌≡◌, ◌≤◌, ◌↔◌, true, false, IsTrue, IfOk, OnOk, IsErrOf, Err};
 ghost use Rattle.std.proofs.Common.{sym, ◌∙◌};
 ghost use Rattle.sqlite.specs.State.{HasCleanDisk};
 ghost use Rattle.sqlite.specs.Held.{state};
 ghost use Rattle.melon_outside.specs.Causes.{next_count, Rose};
-ghost use Rattle.melon_outside.specs.Kept.{batched, is_in_order};
-ghost use Rattle.melon_outside.specs.Keeping.{AreSame, Changes, Committed, Stores};
+ghost use Rattle.melon_outside.specs.Keeping.{Stores};
+ghost use Rattle.melon_outside.specs.SeenKeeper.{Loads, Commits};
 ghost use Rattle.melon_sqlite.specs.Contents.{has_negative};
 ghost use Rattle.melon_sqlite.specs.Opening.{Keeps};
 ghost use Rattle.melon_sqlite.specs.Tables.{kept_schema};
-ghost use Rattle.melon_sqlite.specs.Telling.{GoesOn, Holds, MayLeave, Tells, has_big, settles, shown};
+ghost use Rattle.melon_sqlite.specs.Telling.{GoesOn, Holds, Tells, has_big, held_in_order, seen_keeper, settles, shown};
 ghost use Rattle.melon_sqlite.specs.Transactions.{AreNumbers};
 
 use crate::opening::opened;
@@ -82,21 +82,17 @@ fn counted(faults: u64, error: &Error) -> (KeeperError, u64)
 }
 
 impl<S: Alter + Drop> Keeper for SqliteKeeper<S> {
-    ghost holds = { Holds S.Store };
-
-    ghost may_leave = { MayLeave S.Store };
-
-    ghost honest = { λ k. HasCleanDisk (shown S.Store k) };
-
-    ghost faults = { λ k. k.faults };
-
-    ghost sound = { λ _. ⊥ };
+    ghost seen = { seen_keeper S.Store };
 
     ghost one = { λ k a b p q store. p.1 store ∙ sym (q.1 store) };
 
     ghost between = { λ k. settles k.fits _ (λ db. S.Store.settled k.connection.store db) };
 
     ghost honestly = { λ k left l. l.0 };
+
+    ghost ordered = { λ k m h store. held_in_order _ _ m h store };
+
+    ghost planned = { λ k fails all p _. absurd p };
 
     fn load(&mut self, alloc: Global, store: &str) -> Result<Kept, KeeperError>
         ensures tells { OnOk result (Tells S.Store self.old → HasCleanDisk (shown S.Store self.new) → Tells S.Store self.new) }
@@ -106,16 +102,7 @@ impl<S: Alter + Drop> Keeper for SqliteKeeper<S> {
         ensures uncounted { OnOk result (self.new.faults ≡ self.old.faults) }
         ensures counted { IsErrOf result KeeperError.Failed → self.new.faults ≡ next_count self.old.faults }
         ensures memory { IsErrOf result KeeperError.Memory → self.new.faults ≡ self.old.faults }
-        ensures kept { (m : Stores) → Holds S.Store self.new m → Holds S.Store self.old m }
-        ensures found { (m : Stores) → Holds S.Store self.new m → IfOk result (λ kept. kept ≡ m store.now) }
-        ensures ordered { IfOk result (λ kept. is_in_order kept ≡ true) }
-        ensures leaves { (was : Stores) → Holds S.Store self.old was → (m : Stores) → MayLeave S.Store self.new m → AreSame m was }
-        ensures goes_on { OnOk result (HasCleanDisk (shown S.Store self.new) → (was : Stores) → Holds S.Store self.old was → Holds S.Store self.new was) }
-        ensures later { self.old.faults ≤ self.new.faults }
-        ensures cause { IsErrOf result KeeperError.Failed → Rose self.old.faults self.new.faults }
-        ensures sound_stays { ⊥ → ⊥ }
-        ensures sound_count { ⊥ → self.new.faults ≡ self.old.faults }
-        ensures sound_never { ⊥ → IsErrOf result KeeperError.Failed → ⊥ }
+        ensures loads { Loads store.now result (seen_keeper S.Store self.old) (seen_keeper S.Store self.new) }
     {
         if !self.connection.is_autocommit() {
             self.faults = one_more(self.faults);
@@ -139,14 +126,7 @@ impl<S: Alter + Drop> Keeper for SqliteKeeper<S> {
         ensures uncounted { OnOk result (self.new.faults ≡ self.old.faults) }
         ensures counted { IsErrOf result KeeperError.Failed → self.new.faults ≡ next_count self.old.faults }
         ensures memory { IsErrOf result KeeperError.Memory → self.new.faults ≡ self.old.faults }
-        ensures done { (m : Stores) → Holds S.Store self.new m → (was : Stores) × Holds S.Store self.old was × Committed (batched batch.now) store.now result was m }
-        ensures leaves { (was : Stores) → Holds S.Store self.old was → (m : Stores) → MayLeave S.Store self.new m → AreSame m was ⊎ Changes (batched batch.now) store.now was m }
-        ensures was_honest { HasCleanDisk (shown S.Store self.new) → HasCleanDisk (shown S.Store self.old) }
-        ensures later { self.old.faults ≤ self.new.faults }
-        ensures cause { IsErrOf result KeeperError.Failed → Rose self.old.faults self.new.faults }
-        ensures sound_stays { ⊥ → ⊥ }
-        ensures sound_count { ⊥ → self.new.faults ≡ self.old.faults }
-        ensures sound_never { ⊥ → IsErrOf result KeeperError.Failed → ⊥ }
+        ensures commits { Commits batch.now store.now result (seen_keeper S.Store self.old) (seen_keeper S.Store self.new) }
     {
         if !self.connection.is_autocommit() || has_big(batch.values.as_slice()) {
             self.faults = one_more(self.faults);

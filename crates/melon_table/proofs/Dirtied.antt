@@ -1,8 +1,7 @@
 -- The keys of the rows that aren't synced, as keys come, go and change their rows.
-use Rattle.std.proofs.Common.{◌≡◌, ◌≢◌, ℕ, zero, suc, ◌<◌, ◌≤◌, List, [], ◌∷◌, length, take, filter, cond, Bool, true, false, Option, Some, None, slice_get, refl, sym, ap, subst, ◌∙◌, inl, inr, arith}
+use Rattle.std.proofs.Common.{◌≡◌, ◌≢◌, ℕ, zero, suc, ◌<◌, ◌≤◌, List, [], ◌∷◌, length, take, filter, cond, Bool, true, false, Some, slice_get, refl, sym, ap, ◌∙◌, arith}
 use Rattle.std.specs.List.{AllByRecursion, insert, remove}
-use Rattle.std.proofs.lemmas.Bool.{cases_eq}
-use Rattle.slab.specs.Slab.{Slab, get, ContainsKey, Updates}
+use Rattle.slab.specs.Slab.{Slab, get, ContainsKey}
 use Rattle.melon_raw.specs.declared.raw.Raw.{Raw}
 use Rattle.melon_table.specs.declared.shelf.Shelf.TheInside.{Inside}
 use Rattle.melon_table.specs.Seen.{SeenShelf}

@@ -1,13 +1,11 @@
 -- How many rows that aren't synced stand below an id, or before a place.
-use Rattle.std.proofs.Common.{◌≡◌, ℕ, zero, suc, ◌+◌, ◌<◌, ◌≤◌, List, [], ◌∷◌, length, take, filter, cond, Bool, true, false, ◌&&◌, Some, slice_get, refl, sym, ap, subst, ◌∙◌, inl, inr, arith, length-take}
+use Rattle.std.proofs.Common.{◌≡◌, ℕ, zero, suc, ◌+◌, ◌<◌, ◌≤◌, List, [], ◌∷◌, length, take, filter, Bool, true, false, Some, slice_get, refl, sym, ap, subst, ◌∙◌, inl, inr, arith}
 use Rattle.std.proofs.lemmas.Bool.{cases_lt}
 use Rattle.std.proofs.lemmas.Cmp.{nat_list_cmp_total}
-use Rattle.std.proofs.lemmas.List.{take_all}
 use Rattle.std.specs.Ordering.{is_lt}
 use Rattle.std.specs.List.{list_all}
-use Rattle.std.specs.declared.cmp.Ordering.TheVariants.{Less}
 use Rattle.melon_raw.specs.declared.raw.Raw.{Raw}
-use Rattle.melon_raw.specs.Order.{id_cmp, is_below}
+use Rattle.melon_raw.specs.Order.{is_below}
 use Rattle.melon_raw.specs.Rows.{is_ascending, below}
 use Rattle.melon_table.specs.Dirty.{is_dirty, dirty_rows}
 use Rattle.melon_table.proofs.Order.{split, less_from, and_left, and_right, both}

@@ -6,11 +6,12 @@ ghost use Rattle.melon_table.specs.Dirty.{is_dirty, dirty_rows};
 ghost use Rattle.melon_table.specs.Stocked.{marked};
 
 use crate::keys::Keys;
-use melon_raw::{Raw, Status};
+use melon_raw::{Raw, Status, Steps};
 use slab::Slab;
 use std::alloc::{AllocError, Global};
 use std::marker::Model;
 use std::mem;
+use std::sync::ledger::Ledger;
 
 /// Rows one after another, with room for more.
 #[derive(Debug, Drop)]
@@ -96,12 +97,22 @@ impl Shelf {
         self.order.len()
     }
 
-    /// The row at a place.
-    pub fn at(&self, place: usize) -> &Raw
+    /// The row at a place. Each look takes a step, and no row is shown without one.
+    pub fn at<L: Ledger>(&self, place: usize, steps: &mut Steps<L>) -> &Raw
         requires { place < length self.now.rows }
-        ensures { slice_get self.now.rows place ≡ Some result.now }
+        ensures row { slice_get self.now.rows place ≡ Some result.now }
+        ensures cost { steps.new ≡ steps.old + 1 }
     {
+        steps.tick();
         &self.rows[self.order.at(place)]
+    }
+
+    /// Whether the row at a place isn't synced.
+    pub fn is_dirty_at(&self, place: usize) -> bool
+        requires { place < length self.now.rows }
+        ensures { (row : Raw) → slice_get self.now.rows place ≡ Some row → result ≡ is_dirty row.status }
+    {
+        is_dirty(&self.rows[self.order.at(place)])
     }
 
     /// How many rows aren't synced.
@@ -111,11 +122,13 @@ impl Shelf {
         self.dirty.len()
     }
 
-    /// The row with this many before it, of those that aren't synced.
-    pub fn dirty_at(&self, i: usize) -> &Raw
+    /// The row with this many before it, of those that aren't synced, for one step.
+    pub fn dirty_at<L: Ledger>(&self, i: usize, steps: &mut Steps<L>) -> &Raw
         requires { i < length (dirty_rows self.now.rows) }
-        ensures { slice_get (dirty_rows self.now.rows) i ≡ Some result.now }
+        ensures row { slice_get (dirty_rows self.now.rows) i ≡ Some result.now }
+        ensures cost { steps.new ≡ steps.old + 1 }
     {
+        steps.tick();
         &self.rows[self.dirty.at(i)]
     }
 

@@ -5,7 +5,7 @@ ghost use Rattle.melon_table.specs.Dirty.{dirty_rows};
 ghost use Rattle.melon_table.specs.Kept.{IsKept};
 ghost use Rattle.melon_table.specs.Places.{FewSteps};
 
-use crate::search::{before_replaced, dirty_before, find_place, place_of};
+use crate::search::{before_replaced, dirty_before, find_place, look_up};
 use crate::shelf::Shelf;
 use melon_raw::{Id, Raw, Steps};
 use melon_schema::{ColumnSchema, List};
@@ -77,8 +77,8 @@ impl Table {
         ensures cost { FewSteps (length self.now.rows) steps.old steps.new }
         ensures kept { IsKept self.now.columns self.now.rows }
     {
-        match place_of(&self.rows, id, steps) {
-            Ok(place) => Some(self.rows.at(place)),
+        match look_up(&self.rows, id, steps) {
+            Ok((_, row)) => Some(row),
             Err(_) => None,
         }
     }
@@ -90,8 +90,7 @@ impl Table {
         ensures cost { steps.new ≡ steps.old + 1 }
         ensures kept { IsKept self.now.columns self.now.rows }
     {
-        steps.tick();
-        self.rows.at(i)
+        self.rows.at(i, steps)
     }
 
     /// The row with this many before it, of the rows that aren't synced.
@@ -101,8 +100,7 @@ impl Table {
         ensures kept { IsKept self.now.columns self.now.rows }
     {
         if i < self.rows.dirty_len() {
-            steps.tick();
-            return Some(self.rows.dirty_at(i));
+            return Some(self.rows.dirty_at(i, steps));
         }
         None
     }
@@ -122,7 +120,7 @@ impl Table {
                 Some(self.rows.replace(place, before, row))
             }
             Err(place) => {
-                let before = dirty_before(&self.rows, row.id.as_str(), place);
+                let before = dirty_before(&self.rows, &row.id, place);
                 self.rows.insert(place, before, row);
                 None
             }
@@ -138,7 +136,7 @@ impl Table {
     {
         match find_place(&self.rows, id) {
             Ok(place) => {
-                let before = dirty_before(&self.rows, id.as_str(), place);
+                let before = dirty_before(&self.rows, id, place);
                 Some(self.rows.remove(place, before))
             }
             Err(_) => None,

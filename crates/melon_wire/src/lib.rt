@@ -6,7 +6,6 @@ pub mod fetch;
 pub mod keyed;
 pub mod pull;
 pub mod reading;
-mod tests;
 pub mod wire_fault;
 pub mod writing;
 

@@ -1,8 +1,9 @@
 -- What a handler of a line answered and left.
 use Rattle.std.specs.Prelude.{◌≡◌, ◌≢◌, ◌≤◌, ◌+◌, ◌⊎◌, ℕ, List, [], ◌∷◌, length, map, set, slice_get, Bool, true, false, Option, Some, None, Result, Ok, Err, IfOk, OnErr, if◌then◌else◌}
 use Rattle.melon_outside.specs.Causes.{Rose}
-use Rattle.melon_outside.specs.Keeping.{Stores}
-use Rattle.melon_board.specs.Carried.{HoldsAsBefore}
+use Rattle.melon_outside.specs.Keeping.{Stores, AreSame}
+use Rattle.melon_outside.specs.SeenKeeper.{SeenKeeper, Answered, Later}
+use Rattle.melon_outside.specs.Asking.{HoldsAsBefore}
 use Rattle.melon_board.specs.declared.fault.WriteFault.{WriteFault}
 use Rattle.melon_board.specs.declared.fault.WriteFault.TheVariants.{Memory}
 use Rattle.melon_script.specs.declared.item.Item.{Item}
@@ -31,7 +32,7 @@ use Rattle.melon_machine.specs.State.{App, Observer, named, observed_by, history
 use Rattle.melon_machine.specs.Apps.{place_of, place_in}
 use Rattle.melon_machine.specs.Outcomes.{Stepped}
 use Rattle.melon_machine.specs.Step.{kept_calls, is_turn, is_of_server}
-use Rattle.melon_machine.specs.Calls.{Calls, Follows, failures, RoseBy, Meets}
+use Rattle.melon_machine.specs.Calls.{Calls, Begins, Follows, failures, RoseBy, Meets, Interrupts}
 use Rattle.melon_machine.specs.Refusals.{write_refusal}
 
 -- A batch that was made is told with the journal's length; a refusal is told, unless memory runs out.
@@ -41,14 +42,15 @@ Tells app (Ok at) (Err e) = ⊥
 Tells app (Err fault) (Ok item) = (item ≡ write_refusal fault) × (fault ≢ Memory)
 Tells app (Err fault) (Err e) = Unit {0}
 
--- With an answer the calls were met. On want of memory the object is as it was, and so is what the keeper holds. The keeper's
--- count never falls, and rose where the answer tells that it failed.
-pub record IsHandled {X T R E : Type 0} (calls : Calls X) (end : R → X) (tells : R → Bool) (before now : Stores → Type 0) (faults_before faults_now : ℕ) (was left : T) (result : Result R E) : Type 0 where
-  pub met : IfOk result (λ answer. Meets calls before now faults_before faults_now (end answer))
+-- With an answer the calls were met. On want of memory the object is as it was, and so is what the keeper holds, which was asked
+-- for the first of the calls alone. The keeper's count rose where the answer tells that it failed.
+pub record IsHandled {X T R E : Type 0} (calls : Calls X) (end : R → X) (tells : R → Bool) (before now : SeenKeeper) (was left : T) (result : Result R E) : Type 0 where
+  pub met : IfOk result (λ answer. Meets calls before now (end answer))
   pub same : OnErr result (left ≡ was)
   pub held : OnErr result (HoldsAsBefore before now)
-  pub later : faults_before ≤ faults_now
-  pub cause : IfOk result (λ answer. tells answer ≡ true → Rose faults_before faults_now)
+  pub interrupted : OnErr result (Interrupts calls before now)
+  pub later : Later before now
+  pub cause : IfOk result (λ answer. tells answer ≡ true → Rose before.faults now.faults)
 
 -- ---- kinds of lines
 
@@ -61,11 +63,18 @@ IsKind line kinds.App = (is_turn line ≡ false) × (is_of_server line ≡ false
 
 -- ---- a step
 
--- The keeper held this, and every machine that the code had so makes calls over it that leave what it holds now and end so.
-abbrev pub MeetsAs : (Machine → Calls (Stepped Machine)) → KeptMachine → (Stores → Type 0) → (Stores → Type 0) → ℕ → ℕ → Stepped KeptMachine → Type 0
-MeetsAs calls was before now faults_before faults_now end =
-    (m : Stores) → now m → (kept : Stores) × before kept × ((machine : Machine) → IsKeptAs machine was
-    → (used : List Bool) × Follows (kept_calls (calls machine)) kept used end m × RoseBy (failures used) faults_before faults_now)
+-- The keeper held this, and every machine that the code had so makes calls over it that leave what it holds now and end so, with
+-- the outcomes that it answered.
+abbrev pub MeetsAs : (Machine → Calls (Stepped Machine)) → KeptMachine → SeenKeeper → SeenKeeper → Stepped KeptMachine → Type 0
+MeetsAs calls was before now end =
+    (m : Stores) → now.holds m → (kept : Stores) × before.holds kept × ((machine : Machine) → IsKeptAs machine was
+    → (used : List Bool) × Follows (kept_calls (calls machine)) kept used end m × RoseBy (failures used) before.faults now.faults × Answered used before now)
+
+-- The keeper holds what it held, and was asked for the first calls alone of every machine that the code had so.
+abbrev pub InterruptsAs : (Machine → Calls (Stepped Machine)) → KeptMachine → SeenKeeper → SeenKeeper → Type 0
+InterruptsAs calls was before now =
+    (m : Stores) → now.holds m → (kept : Stores) × before.holds kept × AreSame m kept × ((machine : Machine) → IsKeptAs machine was
+    → (used : List Bool) × Begins used (calls machine) kept × RoseBy (failures used) before.faults now.faults × Answered used before now)
 
 -- ---- watches
 

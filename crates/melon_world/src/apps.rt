@@ -77,7 +77,7 @@ fn open_under<K: Keeper>(
     app: &Text,
     schema: AppSchema,
 ) -> Result<Item, AllocError>
-    ensures { IsHandled (opens_under as_kept apps.old.items app.now (Ok schema)) (stepped apps.new.items) is_of_keeper (K.holds keeper.old) (K.holds keeper.new) (K.faults keeper.old) (K.faults keeper.new) apps.old.items apps.new.items result }
+    ensures { IsHandled (opens_under as_kept apps.old.items app.now (Ok schema)) (stepped apps.new.items) is_of_keeper (K.seen keeper.old) (K.seen keeper.new) apps.old.items apps.new.items result }
 {
     apps.reserve(1)?;
     let name = app.copy(alloc)?;
@@ -97,6 +97,7 @@ fn open_under<K: Keeper>(
 }
 
 /// Opens an app, where nothing refuses its name.
+#[tactic(auto, using(crate::proofs::Meeting::handled_unasked))]
 fn open_named<K: Keeper>(
     apps: &mut Vec<App>,
     alloc: Global,
@@ -104,7 +105,7 @@ fn open_named<K: Keeper>(
     app: &Text,
     json: &Value,
 ) -> Result<Item, AllocError>
-    ensures { IsHandled (opens_under as_kept apps.old.items app.now (schema_of (view json.now))) (stepped apps.new.items) is_of_keeper (K.holds keeper.old) (K.holds keeper.new) (K.faults keeper.old) (K.faults keeper.new) apps.old.items apps.new.items result }
+    ensures { IsHandled (opens_under as_kept apps.old.items app.now (schema_of (view json.now))) (stepped apps.new.items) is_of_keeper (K.seen keeper.old) (K.seen keeper.new) apps.old.items apps.new.items result }
 {
     match AppSchema::read(alloc, json) {
         Ok(schema) => open_under(apps, alloc, keeper, app, schema),
@@ -114,6 +115,7 @@ fn open_named<K: Keeper>(
 }
 
 /// Opens an app over what the keeper keeps of its store.
+#[tactic(auto, using(crate::proofs::Meeting::handled_unasked))]
 pub fn open<K: Keeper>(
     apps: &mut Vec<App>,
     alloc: Global,
@@ -121,7 +123,7 @@ pub fn open<K: Keeper>(
     app: &Text,
     json: &Value,
 ) -> Result<Item, AllocError>
-    ensures { IsHandled (open_step as_kept apps.old.items app.now (view json.now)) (stepped apps.new.items) is_of_keeper (K.holds keeper.old) (K.holds keeper.new) (K.faults keeper.old) (K.faults keeper.new) apps.old.items apps.new.items result }
+    ensures { IsHandled (open_step as_kept apps.old.items app.now (view json.now)) (stepped apps.new.items) is_of_keeper (K.seen keeper.old) (K.seen keeper.new) apps.old.items apps.new.items result }
 {
     match open_fault(apps.as_slice(), app.as_str()) {
         Some(number) => app_refusal(alloc, number, app),

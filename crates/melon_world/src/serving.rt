@@ -29,7 +29,7 @@ fn open_under<K: Keeper>(
     schema: AppSchema,
 ) -> Result<Item, AllocError>
     requires { server.old ≡ None }
-    ensures { IsHandled (begins_under with_rows (Ok schema)) (stepped server.new) is_of_keeper (K.holds keeper.old) (K.holds keeper.new) (K.faults keeper.old) (K.faults keeper.new) server.old server.new result }
+    ensures { IsHandled (begins_under with_rows (Ok schema)) (stepped server.new) is_of_keeper (K.seen keeper.old) (K.seen keeper.new) server.old server.new result }
 {
     match Backend::open(alloc, keeper, STORE, schema) {
         Ok(backend) => {
@@ -42,6 +42,7 @@ fn open_under<K: Keeper>(
 }
 
 /// Opens the server, where it isn't open.
+#[tactic(auto, using(crate::proofs::Meeting::handled_unasked))]
 fn open_first<K: Keeper>(
     server: &mut Option<Backend>,
     alloc: Global,
@@ -49,7 +50,7 @@ fn open_first<K: Keeper>(
     json: &Value,
 ) -> Result<Item, AllocError>
     requires { server.old ≡ None }
-    ensures { IsHandled (begins_under with_rows (schema_of (view json.now))) (stepped server.new) is_of_keeper (K.holds keeper.old) (K.holds keeper.new) (K.faults keeper.old) (K.faults keeper.new) server.old server.new result }
+    ensures { IsHandled (begins_under with_rows (schema_of (view json.now))) (stepped server.new) is_of_keeper (K.seen keeper.old) (K.seen keeper.new) server.old server.new result }
 {
     match AppSchema::read(alloc, json) {
         Ok(schema) => open_under(server, alloc, keeper, schema),
@@ -59,13 +60,14 @@ fn open_first<K: Keeper>(
 }
 
 /// Opens the server over what the keeper keeps of it.
+#[tactic(auto, using(crate::proofs::Meeting::handled_unasked))]
 pub fn open_backend<K: Keeper>(
     server: &mut Option<Backend>,
     alloc: Global,
     keeper: &mut K,
     json: &Value,
 ) -> Result<Item, AllocError>
-    ensures { IsHandled (backend_step with_rows server.old (view json.now)) (stepped server.new) is_of_keeper (K.holds keeper.old) (K.holds keeper.new) (K.faults keeper.old) (K.faults keeper.new) server.old server.new result }
+    ensures { IsHandled (backend_step with_rows server.old (view json.now)) (stepped server.new) is_of_keeper (K.seen keeper.old) (K.seen keeper.new) server.old server.new result }
 {
     match server {
         Some(_) => Ok(backend_refusal(alloc, 1)),

@@ -1,14 +1,15 @@
-ghost use Rattle.std.specs.Prelude.{◌≡◌, ◌≤◌, [], ℕ, true, false, IfOk, OnErr};
+ghost use Rattle.std.specs.Prelude.{◌≡◌, [], true, false, IfOk, OnErr};
 ghost use Rattle.std.specs.List.{list_any};
 ghost use Rattle.melon_outside.specs.Causes.{Rose};
-ghost use Rattle.melon_board.specs.Carried.{HoldsAsBefore};
+ghost use Rattle.melon_outside.specs.SeenKeeper.{Later};
+ghost use Rattle.melon_outside.specs.Asking.{HoldsAsBefore};
 ghost use Rattle.melon_script.specs.Seen.{seen};
 ghost use Rattle.melon_machine.specs.Refusals.{is_of_keeper};
 ghost use Rattle.melon_machine.specs.State.{none_open};
 ghost use Rattle.melon_machine.specs.Outcomes.{stepped, ends_with};
 ghost use Rattle.melon_machine.specs.Apps.{plain_app_step};
 ghost use Rattle.melon_machine.specs.Step.{step, is_turn, is_of_server};
-ghost use Rattle.melon_world.specs.Handled.{IsHandled, MeetsAs, IsBounded, line_bound, IsLeft};
+ghost use Rattle.melon_world.specs.Handled.{IsHandled, MeetsAs, InterruptsAs, IsBounded, line_bound, IsLeft};
 
 use crate::app::App;
 use crate::apps::{close, open};
@@ -60,7 +61,7 @@ fn take<K: Keeper, N: Ledger>(
 ) -> Result<Item, AllocError>
     requires turns { is_turn (seen line.now) ≡ false }
     requires server { is_of_server (seen line.now) ≡ false }
-    ensures { IsHandled (plain_app_step apps.old.items (seen line.now)) (stepped apps.new.items) is_of_keeper (K.holds keeper.old) (K.holds keeper.new) (K.faults keeper.old) (K.faults keeper.new) apps.old.items apps.new.items result }
+    ensures { IsHandled (plain_app_step apps.old.items (seen line.now)) (stepped apps.new.items) is_of_keeper (K.seen keeper.old) (K.seen keeper.new) apps.old.items apps.new.items result }
 {
     match line {
         Line::Open { app, schema } => open(apps, alloc, keeper, app, schema),
@@ -113,6 +114,7 @@ impl World {
 
     /// One step of the machine. All memory but that of a turn is taken before anything is done; turns that were taken stay
     /// taken. A turn of an observer of a simple query takes at most one step for each change behind its position.
+    #[tactic(auto, using(crate::proofs::Stepping::unasked_as))]
     pub fn step<K: Keeper, N: Ledger>(
         &mut self,
         alloc: Global,
@@ -120,11 +122,12 @@ impl World {
         line: &Line,
         steps: &mut Steps<N>,
     ) -> Result<Answer, AllocError>
-        ensures met { IfOk result (λ items. MeetsAs (λ m. step m (seen line.now)) self.old (K.holds keeper.old) (K.holds keeper.new) (K.faults keeper.old) (K.faults keeper.new) (ends_with self.new items)) }
+        ensures met { IfOk result (λ items. MeetsAs (λ m. step m (seen line.now)) self.old (K.seen keeper.old) (K.seen keeper.new) (ends_with self.new items)) }
         ensures left { OnErr result (IsLeft (seen line.now) self.old self.new) }
-        ensures held { OnErr result (HoldsAsBefore (K.holds keeper.old) (K.holds keeper.new)) }
-        ensures later { K.faults keeper.old ≤ K.faults keeper.new }
-        ensures cause { IfOk result (λ items. list_any is_of_keeper items ≡ true → Rose (K.faults keeper.old) (K.faults keeper.new)) }
+        ensures held { OnErr result (HoldsAsBefore (K.seen keeper.old) (K.seen keeper.new)) }
+        ensures interrupted { OnErr result (InterruptsAs (λ m. step m (seen line.now)) self.old (K.seen keeper.old) (K.seen keeper.new)) }
+        ensures later { Later (K.seen keeper.old) (K.seen keeper.new) }
+        ensures cause { IfOk result (λ items. list_any is_of_keeper items ≡ true → Rose (K.seen keeper.old).faults (K.seen keeper.new).faults) }
         ensures cost { IfOk result (λ _. IsBounded (line_bound self.old.apps (seen line.now)) steps.old steps.new) }
     {
         match kind_of(line) {

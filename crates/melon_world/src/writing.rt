@@ -39,7 +39,7 @@ fn write_ops<K: Keeper>(
     name: &Text,
     ops: List<Op>,
 ) -> Result<Item, AllocError>
-    ensures { IsHandled (writes_by as_kept name.now app.old (write_plan app.old.store ops)) (told app.new) is_of_keeper (K.holds keeper.old) (K.holds keeper.new) (K.faults keeper.old) (K.faults keeper.new) app.old app.new result }
+    ensures { IsHandled (writes_by as_kept name.now app.old (write_plan app.old.store ops)) (told app.new) is_of_keeper (K.seen keeper.old) (K.seen keeper.new) app.old app.new result }
 {
     let name = name.copy(alloc)?;
     let done = app.store.write(alloc, keeper, ops);
@@ -47,6 +47,7 @@ fn write_ops<K: Keeper>(
 }
 
 /// Reads the operations, and makes the batch.
+#[tactic(auto, using(crate::proofs::Meeting::handled_unasked))]
 fn write_now<K: Keeper>(
     app: &mut App,
     alloc: Global,
@@ -54,7 +55,7 @@ fn write_now<K: Keeper>(
     name: &Text,
     ops: &Value,
 ) -> Result<Item, AllocError>
-    ensures { IsHandled (writes as_kept name.now app.old (ops_of (view ops.now))) (told app.new) is_of_keeper (K.holds keeper.old) (K.holds keeper.new) (K.faults keeper.old) (K.faults keeper.new) app.old app.new result }
+    ensures { IsHandled (writes as_kept name.now app.old (ops_of (view ops.now))) (told app.new) is_of_keeper (K.seen keeper.old) (K.seen keeper.new) app.old app.new result }
 {
     match read_ops(alloc, ops) {
         Ok(ops) => write_ops(app, alloc, keeper, name, ops),
@@ -62,6 +63,7 @@ fn write_now<K: Keeper>(
     }
 }
 
+#[tactic(auto, using(crate::proofs::Meeting::handled_unasked))]
 fn write_app<K: Keeper>(
     app: &mut App,
     alloc: Global,
@@ -70,7 +72,7 @@ fn write_app<K: Keeper>(
     ops: &Value,
     writer: &Option<Text>,
 ) -> Result<Item, AllocError>
-    ensures { IsHandled (write_app as_kept name.now (view ops.now) writer.now app.old) (told app.new) is_of_keeper (K.holds keeper.old) (K.holds keeper.new) (K.faults keeper.old) (K.faults keeper.new) app.old app.new result }
+    ensures { IsHandled (write_app as_kept name.now (view ops.now) writer.now app.old) (told app.new) is_of_keeper (K.seen keeper.old) (K.seen keeper.new) app.old app.new result }
 {
     match write_fault(alloc, &app.queue, writer)? {
         Some(refusal) => Ok(refusal),
@@ -79,6 +81,7 @@ fn write_app<K: Keeper>(
 }
 
 /// Makes a batch on an open app.
+#[tactic(auto, using(crate::proofs::Meeting::handled_unasked))]
 pub fn write<K: Keeper>(
     apps: &mut Vec<App>,
     alloc: Global,
@@ -87,7 +90,7 @@ pub fn write<K: Keeper>(
     ops: &Value,
     writer: &Option<Text>,
 ) -> Result<Item, AllocError>
-    ensures { IsHandled (on_app as_kept apps.old.items app.now (write_app as_kept app.now (view ops.now) writer.now)) (stepped apps.new.items) is_of_keeper (K.holds keeper.old) (K.holds keeper.new) (K.faults keeper.old) (K.faults keeper.new) apps.old.items apps.new.items result }
+    ensures { IsHandled (on_app as_kept apps.old.items app.now (write_app as_kept app.now (view ops.now) writer.now)) (stepped apps.new.items) is_of_keeper (K.seen keeper.old) (K.seen keeper.new) apps.old.items apps.new.items result }
 {
     match place_of(apps.as_slice(), app.as_str()) {
         Some(place) => write_app(&mut apps[place], alloc, keeper, app, ops, writer),

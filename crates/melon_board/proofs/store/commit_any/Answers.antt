@@ -1,5 +1,12 @@
-use Rattle.melon_outside.proofs.Stopped.{quiet}
+use Rattle.std.proofs.Common.{Option, Ok, sym, subst}
+use Rattle.melon_outside.specs.declared.kept.KeptBatch.{KeptBatch}
+use Rattle.melon_outside.specs.declared.keeper.KeeperError.{KeeperError}
+use Rattle.melon_outside.specs.declared.keeper.KeeperError.TheVariants.{Failed}
+use Rattle.melon_outside.specs.Asking.{Asks}
+use Rattle.melon_outside.proofs.SeenKeepers.{none_asked}
 use Rattle.melon_board.proofs.store.commit_any.Goals as goal
 
-pub returns-in-None-clause-stops : goal.returns-in-None-clause-stops
-returns-in-None-clause-stops g c = quiet (g.K.Keeper.holds c.args.keeper.now) (g.K.Keeper.may_leave c.args.keeper.now) (g.met.K.Keeper.between c.args.keeper.now) c.args.batch.now c.args.key.now
+pub returns-in-None-clause-keeper : goal.returns-in-None-clause-keeper
+returns-in-None-clause-keeper g c =
+    let seen = g.K.Keeper.seen c.args.keeper.now in
+    subst (λ (batch : Option KeptBatch). Asks {T = Unit {0}} {E = KeeperError} batch c.args.key.now Failed (Ok tt) seen seen) (sym c.in-None.is) (none_asked seen (g.met.K.Keeper.between c.args.keeper.now) c.args.key.now Failed tt)

@@ -6,5 +6,4 @@ use Rattle.melon_cli.proofs.lines.step_line.Goals as goal
 
 pub returns-in-Err-Memory-clause-memory : goal.returns-in-Err-Memory-clause-memory
 returns-in-Err-Memory-clause-memory g c = λ is.
-    inr (takes_step (λ m. step m (seen c.args.line.now)) c.args.world.now c.step.new.self (g.K.Keeper.holds c.args.keeper.now) (g.K.Keeper.holds c.step.new.keeper) (g.K.Keeper.faults c.args.keeper.now) (g.K.Keeper.faults c.step.new.keeper)
-    c.in_ok-answer.answer (λ _. Unit {0}) c.in_ok-answer.ensures.met tt)
+    inr (takes_step (λ m. step m (seen c.args.line.now)) c.args.world.now c.step.new.self (g.K.Keeper.seen c.args.keeper.now) (g.K.Keeper.seen c.step.new.keeper) c.in_ok-answer.answer (λ _. Unit {0}) c.in_ok-answer.ensures.met tt)

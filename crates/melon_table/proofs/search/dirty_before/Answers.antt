@@ -1,4 +1,4 @@
-use Rattle.std.proofs.Common.{◌≡◌, ◌≤◌, ℕ, List, length, take, sym, ap, ◌∙◌, length-take, arith}
+use Rattle.std.proofs.Common.{◌≡◌, List, length, ap, ◌∙◌, length-take, arith}
 use Rattle.melon_raw.specs.declared.raw.Raw.{Raw}
 use Rattle.melon_table.specs.Dirty.{is_dirty, dirty_rows}
 use Rattle.melon_table.proofs.DirtyBelow.{all_pass, below_dirty}
@@ -15,4 +15,4 @@ returns-then-dirty-len c =
 pub returns : goal.returns
 returns c =
     let rows = c.args.rows.now.rows in
-    c.dirty_below.ensures ∙ (ap length (below_dirty c.args.id.now rows) ∙ ap (λ (l : List Raw). length (dirty_rows l)) c.requires.place)
+    c.find_below.ensures ∙ (ap length (below_dirty c.args.id.now rows) ∙ ap (λ (l : List Raw). length (dirty_rows l)) c.requires.place)

@@ -9,4 +9,4 @@ returns-clause-stands g c = λ log stands. log_stands log c.args.self.now c.args
 
 pub returns-clause-keeps : goal.returns-clause-keeps
 returns-clause-keeps g c = λ log stands.
-    log_keeps log c.args.self.now c.args.last c.args.changes.now stands c.requires (g.K.Keeper.holds c.args.keeper.now) (g.K.Keeper.holds c.accept.new.keeper) c.accept.new.self c.accept.result c.accept.ensures.pushed c.accept.ensures.kept
+    log_keeps log c.args.self.now c.args.last c.args.changes.now stands c.requires (g.K.Keeper.seen c.args.keeper.now).holds (g.K.Keeper.seen c.accept.new.keeper).holds c.accept.new.self c.accept.result c.accept.ensures.pushed c.accept.ensures.keeper.kept

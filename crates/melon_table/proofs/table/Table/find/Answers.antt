@@ -7,7 +7,7 @@ pub returns-in-Ok-clause-found : goal.returns-in-Ok-clause-found
 returns-in-Ok-clause-found g c =
     let rows = c.self.inside.rows.rows in
     let h = c.in-Ok.ensures.place in
-    found c.args.id.now rows c.in-Ok.place c.self.invariant.ascending h c.at.result.now c.at.ensures ∙ ap (λ t. at_id c.args.id.now t.rows) c.self.view_is
+    found c.args.id.now rows c.in-Ok.field-0-0 c.self.invariant.ascending (c.in-Ok.row.now, h.0, h.1) c.in-Ok.row.now h.0 ∙ ap (λ t. at_id c.args.id.now t.rows) c.self.view_is
 
 pub returns-in-Err-clause-found : goal.returns-in-Err-clause-found
 returns-in-Err-clause-found g c =

@@ -1,6 +1,6 @@
-use Rattle.std.proofs.Common.{◌≡◌, ◌<◌, List, ℕ, take, None, refl, sym, ap, ◌∙◌, subst, arith}
+use Rattle.std.proofs.Common.{◌≡◌, ◌<◌, List, None, refl, sym, ap, ◌∙◌, subst, arith}
 use Rattle.melon_raw.specs.declared.raw.Raw.{Raw}
-use Rattle.melon_raw.specs.Rows.{Fits, at_id, below, put_row}
+use Rattle.melon_raw.specs.Rows.{Fits, at_id, put_row}
 use Rattle.melon_table.specs.Kept.{IsKept}
 use Rattle.melon_table.proofs.ById.{IsKept-put_row}
 use Rattle.melon_table.proofs.Placed.{below_here, stands_within, below_there, found, absent, replaced, inserted}
@@ -14,8 +14,7 @@ replace-requires-clause-within c = stands_within c.args.row.id c.self.inside.row
 
 pub dirty_before-before-requires-clause-place : goal.dirty_before-before-requires-clause-place
 dirty_before-before-requires-clause-place c =
-    let rows = c.self.inside.rows.rows in
-    ap (λ (id : List ℕ). below id rows) c.as_str.ensures ∙ below_there c.args.row.id rows c.in-Err.place c.in-Err.ensures
+    below_there c.args.row.id c.self.inside.rows.rows c.in-Err.place c.in-Err.ensures
 
 pub invariant_of-self : goal.invariant_of-self
 invariant_of-self c =

@@ -1,6 +1,6 @@
-use Rattle.std.proofs.Common.{◌≡◌, sym, ap, ◌∙◌, subst, List, ℕ}
+use Rattle.std.proofs.Common.{◌≡◌, sym, ap, ◌∙◌, subst, List}
 use Rattle.melon_raw.specs.declared.raw.Raw.{Raw}
-use Rattle.melon_raw.specs.Rows.{at_id, below, without_row}
+use Rattle.melon_raw.specs.Rows.{at_id, without_row}
 use Rattle.melon_table.specs.Kept.{IsKept}
 use Rattle.melon_table.proofs.ById.{IsKept-without_row}
 use Rattle.melon_table.proofs.Placed.{below_here, stands_within, found, absent, removed, unmoved}
@@ -8,8 +8,7 @@ use Rattle.melon_table.proofs.table.Table.remove.Goals as goal
 
 pub dirty_before-before-requires-clause-place : goal.dirty_before-before-requires-clause-place
 dirty_before-before-requires-clause-place c =
-    let rows = c.self.inside.rows.rows in
-    ap (λ (id : List ℕ). below id rows) c.as_str.ensures ∙ below_here c.args.id.now rows c.in-Ok.place c.self.invariant.ascending c.in-Ok.ensures
+    below_here c.args.id.now c.self.inside.rows.rows c.in-Ok.place c.self.invariant.ascending c.in-Ok.ensures
 
 pub remove-requires-clause-within : goal.remove-requires-clause-within
 remove-requires-clause-within c = stands_within c.args.id.now c.self.inside.rows.rows c.in-Ok.place c.self.invariant.ascending c.in-Ok.ensures

@@ -10,7 +10,7 @@ pub loop-place-preserved : goal.loop-place-preserved
 loop-place-preserved c =
     let copied : c.in_ok-columns.columns ≡ c.as_slice.result.now = c.in_ok-columns.ensures in (
       subst (λ (ts : List SeenTable). Made c.args.schema.now.tables ts (c.loop-place.place + 1)) (sym c.in_ok-push.ensures.ok)
-          (made_more c.args.schema.now.tables c.loop-place.tables c.loop-place.place c.at.result.now c.new.result c.at.ensures (c.new.ensures.columns ∙ (copied ∙ c.as_slice.ensures)) c.new.ensures.rows c.loop-place.invariant.0),
+          (made_more c.args.schema.now.tables c.loop-place.tables c.loop-place.place c.at.result.now c.new.result c.at.ensures.value (c.new.ensures.columns ∙ (copied ∙ c.as_slice.ensures)) c.new.ensures.rows c.loop-place.invariant.0),
       c.len-place-end.ensures,
     )
 

@@ -1,0 +1,12 @@
+use Rattle.std.proofs.Common.{Option, Ok, sym, subst}
+use Rattle.melon_outside.specs.declared.kept.KeptBatch.{KeptBatch}
+use Rattle.melon_outside.specs.declared.keeper.KeeperError.{KeeperError}
+use Rattle.melon_outside.specs.declared.keeper.KeeperError.TheVariants.{Failed}
+use Rattle.melon_outside.specs.Asking.{Asks}
+use Rattle.melon_outside.proofs.SeenKeepers.{none_asked}
+use Rattle.melon_backend.proofs.backend.commit_any.Goals as goal
+
+pub returns-in-None : goal.returns-in-None
+returns-in-None g c =
+    let seen = g.K.Keeper.seen c.args.keeper.now in
+    record { keeper = subst (λ (batch : Option KeptBatch). Asks {T = Unit {0}} {E = KeeperError} batch c.args.key.now Failed (Ok tt) seen seen) (sym c.in-None.is) (none_asked seen (g.met.K.Keeper.between c.args.keeper.now) c.args.key.now Failed tt) }

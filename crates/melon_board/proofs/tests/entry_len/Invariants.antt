@@ -1,4 +1,0 @@
-use Rattle.melon_board.proofs.tests.entry_len.Given as goal
-
-abbrev pub ghosts-entry_counted : goal.ghosts-entry_counted
-ghosts-entry_counted a = record { name = a.counter.name; parts = a.counter.parts }
